@@ -1,0 +1,150 @@
+-- The laws of the check walk.
+use Prim.Native.Nat.{ℕ, zero, suc, _+_, _-_, _%_, _≤_, _<_}
+use mathlib.Core.Path.{_≡_, refl, sym, ap, _∙_}
+use mathlib.Core.List.{List, [], _∷_}
+use mathlib.Core.Bool.{Bool, true, false, cond, _&&_}
+use native.Mathlib.Omega.{arith}
+use lib.ListN.{length, getD}
+use lib.Dec.{ltb, leb, eqb}
+use borrow.Author.Tests.{leb-true, eq-eqb, ne-eqb}
+use Rattle.layout.specs.Numbers.{liveMark, leastSize}
+use Rattle.layout.specs.Chunks.{Chunk, free, live, size}
+use Rattle.layout.specs.Walk.{Met, end, chunk, nothing, Walked, broken, whole, withChunk, isWhole, sizeFits, meet, walk, walkFrom}
+use Rattle.layout.specs.Links.{sizeAt}
+use Rattle.layout.proofs.Bools.{both}
+
+-- a size that fits
+pub fits-bounds : (n c x : ℕ) → sizeFits n c x ≡ true → (4 ≤ x) × (x ≤ n - c)
+fits-bounds n c x e =
+    let r = both (leb 4 x) (leb x (n - c)) (both (eqb (x % 2) 0) (leb 4 x && leb x (n - c)) e .1) in (leb-true 4 x (r .0), leb-true x (n - c) (r .1))
+
+-- a chunk that the walk meets has at least 4 words, and ends within the arena
+met-parts : (b₁ b₂ b₃ b₄ b₅ j : Bool) (s v w w′ : ℕ) (j′ : Bool) (k : Chunk) → cond b₁ (cond b₂ end nothing) (cond b₃ (cond b₄ (chunk (live s) w false) (cond j nothing (cond b₅ (chunk (free s) v true) nothing))) nothing) ≡ chunk k w′ j′ → (b₃ ≡ true) × (size k ≡ s)
+met-parts true true b₃ b₄ b₅ j s v w w′ j′ k e = (cc, cc)
+met-parts true false b₃ b₄ b₅ j s v w w′ j′ k e = (cc, cc)
+met-parts false b₂ false b₄ b₅ j s v w w′ j′ k e = (cc, cc)
+met-parts false b₂ true true b₅ j s v w w′ j′ k e = (refl, cc)
+met-parts false b₂ true false b₅ true s v w w′ j′ k e = (cc, cc)
+met-parts false b₂ true false true false s v w w′ j′ k e = (refl, cc)
+met-parts false b₂ true false false false s v w w′ j′ k e = (cc, cc)
+
+met-bounds : (a : List ℕ) (c w : ℕ) (j : Bool) (k : Chunk) (w′ : ℕ) (j′ : Bool) → meet a c w j ≡ chunk k w′ j′ → (4 ≤ size k) × (size k ≤ length a - c)
+unfolding meet
+met-bounds a c w j k w′ j′ e =
+    let p = met-parts (eqb c (length a)) (eqb w 0) (sizeFits (length a) c (getD a c 0)) (eqb (getD a (c + 1) 0) liveMark) (eqb w c) j (getD a c 0) (getD a (c + 1) 0) w w′ j′ k e in
+    let b = fits-bounds (length a) c (getD a c 0) (p .0) in
+    (omega (arith, p .1, b .0), omega (arith, p .1, b .1))
+
+-- enough fuel is as good as any
+fuel : (f g : ℕ) (a : List ℕ) (c w : ℕ) (j : Bool) → length a - c ≤ f → length a - c ≤ g → walk f a c w j ≡ walk g a c w j
+unfolding walk
+fuel zero zero a c w j hf hg = refl
+fuel zero (suc g) a c w j hf hg = go (meet a c w j) refl
+  where
+    go : (m : Met) → meet a c w j ≡ m → walk zero a c w j ≡ walk (suc g) a c w j
+    go end e = rw (e, walk)
+    go nothing e = rw (e, walk)
+    go (chunk k w′ j′) e = let b = met-bounds a c w j k w′ j′ e in let z : ⊥ = omega arith in absurd z
+fuel (suc f) zero a c w j hf hg = go (meet a c w j) refl
+  where
+    go : (m : Met) → meet a c w j ≡ m → walk (suc f) a c w j ≡ walk zero a c w j
+    go end e = rw (e, walk)
+    go nothing e = rw (e, walk)
+    go (chunk k w′ j′) e = let b = met-bounds a c w j k w′ j′ e in let z : ⊥ = omega arith in absurd z
+fuel (suc f) (suc g) a c w j hf hg = go (meet a c w j) refl (λ s w′ j′. fuel f g a (c + s) w′ j′)
+  where
+    go : (m : Met) → meet a c w j ≡ m → ((s w′ : ℕ) (j′ : Bool) → length a - (c + s) ≤ f → length a - (c + s) ≤ g → walk f a (c + s) w′ j′ ≡ walk g a (c + s) w′ j′) → walk (suc f) a c w j ≡ walk (suc g) a c w j
+    go end e r = rw (e, walk)
+    go nothing e r = rw (e, walk)
+    go (chunk k w′ j′) e r = let b = met-bounds a c w j k w′ j′ e in rw (e, walk) (ap (withChunk k) (r (size k) w′ j′ (omega arith) (omega arith)))
+
+-- what the walk makes of what it meets
+pub from-end : (a : List ℕ) (c w : ℕ) (j : Bool) → meet a c w j ≡ end → walkFrom a c w j ≡ whole []
+unfolding walk walkFrom
+from-end a c w j e = go (length a - c)
+  where
+    go : (f : ℕ) → walk f a c w j ≡ whole []
+    go zero = rw (e, walk)
+    go (suc f) = rw (e, walk)
+
+pub from-nothing : (a : List ℕ) (c w : ℕ) (j : Bool) → meet a c w j ≡ nothing → walkFrom a c w j ≡ broken
+unfolding walk walkFrom
+from-nothing a c w j e = go (length a - c)
+  where
+    go : (f : ℕ) → walk f a c w j ≡ broken
+    go zero = rw (e, walk)
+    go (suc f) = rw (e, walk)
+
+pub from-chunk : (a : List ℕ) (c w : ℕ) (j : Bool) (k : Chunk) (w′ : ℕ) (j′ : Bool) → meet a c w j ≡ chunk k w′ j′ → walkFrom a c w j ≡ withChunk k (walkFrom a (c + size k) w′ j′)
+unfolding walk walkFrom
+from-chunk a c w j k w′ j′ e = go (length a - c) refl
+  where
+    b : (4 ≤ size k) × (size k ≤ length a - c)
+    b = met-bounds a c w j k w′ j′ e
+
+    go : (f : ℕ) → length a - c ≡ f → walk f a c w j ≡ withChunk k (walk (length a - (c + size k)) a (c + size k) w′ j′)
+    go zero q = let z : ⊥ = omega (arith, b) in absurd z
+    go (suc f) q = rw (e, walk) (ap (withChunk k) (fuel f (length a - (c + size k)) a (c + size k) w′ j′ (omega (arith, b)) (omega arith)))
+
+-- whether the walk is whole, by the tests that the code makes
+whole-with : (k : Chunk) (r : Walked) → isWhole (withChunk k r) ≡ isWhole r
+whole-with k broken = refl
+whole-with k (whole ks) = refl
+
+pub at-end : (a : List ℕ) (c w : ℕ) (j : Bool) → c ≡ length a → eqb w 0 ≡ isWhole (walkFrom a c w j)
+unfolding meet
+at-end a c w j h = go (eqb w 0) refl
+  where
+    go : (b : Bool) → eqb w 0 ≡ b → b ≡ isWhole (walkFrom a c w j)
+    go true e = rw (from-end a c w j (simp (eq-eqb _ _ h, e)))
+    go false e = rw (from-nothing a c w j (simp (eq-eqb _ _ h, e)))
+
+no-fit : (n c x : ℕ) → 0 ≡ cond (sizeFits n c x) x 0 → sizeFits n c x ≡ false
+no-fit n c x e = go (sizeFits n c x) refl e
+  where
+    go : (b : Bool) → sizeFits n c x ≡ b → 0 ≡ cond b x 0 → b ≡ false
+    go true q h = let z : ⊥ = omega (arith, fits-bounds n c x q) in absurd z
+    go false q h = refl
+
+a-fit : (n c x s : ℕ) → s ≡ cond (sizeFits n c x) x 0 → (s ≡ 0 → ⊥) → (sizeFits n c x ≡ true) × (s ≡ x)
+a-fit n c x s e h = go (sizeFits n c x) e
+  where
+    go : (b : Bool) → s ≡ cond b x 0 → (b ≡ true) × (s ≡ x)
+    go true q = (refl, q)
+    go false q = absurd (h q)
+
+pub no-size : (a : List ℕ) (c w : ℕ) (j : Bool) → (c ≡ length a → ⊥) → 0 ≡ sizeAt a c → false ≡ isWhole (walkFrom a c w j)
+unfolding meet sizeAt
+no-size a c w j h e =
+    rw (from-nothing a c w j (simp (ne-eqb _ _ h, no-fit (length a) c (getD a c 0) e)))
+
+module _ (a : List ℕ) (c s w : ℕ) (e : s ≡ sizeAt a c) (h : s ≡ 0 → ⊥) where
+  pub size-bounds : (4 ≤ s) × (s ≤ length a - c)
+  unfolding sizeAt
+  size-bounds =
+      let p = a-fit (length a) c (getD a c 0) s e h in
+      let b = fits-bounds (length a) c (getD a c 0) (p .0) in
+      (omega arith, omega arith)
+
+  -- at a size that fits, only the second word and the links decide
+  met-sized : (j : Bool) → meet a c w j ≡ cond (eqb (getD a (c + 1) 0) liveMark) (chunk (live s) w false) (cond j nothing (cond (eqb w c) (chunk (free s) (getD a (c + 1) 0) true) nothing))
+  unfolding meet sizeAt
+  met-sized j =
+      let p = a-fit (length a) c (getD a c 0) s e h in
+      let b = fits-bounds (length a) c (getD a c 0) (p .0) in
+      let n : c ≡ length a → ⊥ = omega arith in
+      simp (ne-eqb _ _ n, p .0, p .1)
+
+  pub on-live : (j : Bool) → getD a (c + 1) 0 ≡ liveMark → isWhole (walkFrom a c w j) ≡ isWhole (walkFrom a (c + s) w false)
+  on-live j m =
+      rw (from-chunk a c w j (live s) w false (met-sized j ∙ simp (eq-eqb _ _ m)), whole-with)
+
+  pub on-free : (getD a (c + 1) 0 ≡ liveMark → ⊥) → w ≡ c → isWhole (walkFrom a c w false) ≡ isWhole (walkFrom a (c + s) (getD a (c + 1) 0) true)
+  on-free m l =
+      rw (from-chunk a c w false (free s) (getD a (c + 1) 0) true (met-sized false ∙ simp (ne-eqb _ _ m, eq-eqb _ _ l)), whole-with)
+
+  pub off-link : (getD a (c + 1) 0 ≡ liveMark → ⊥) → (w ≡ c → ⊥) → false ≡ isWhole (walkFrom a c w false)
+  off-link m l = rw (from-nothing a c w false (met-sized false ∙ simp (ne-eqb _ _ m, ne-eqb _ _ l)))
+
+  pub two-free : (getD a (c + 1) 0 ≡ liveMark → ⊥) → false ≡ isWhole (walkFrom a c w true)
+  two-free m = rw (from-nothing a c w true (met-sized true ∙ simp (ne-eqb _ _ m)))

@@ -1,0 +1,5 @@
+pub mod Numbers
+pub mod Chunks
+pub mod Walk
+pub mod Reasons
+pub mod Links

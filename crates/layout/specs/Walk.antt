@@ -1,0 +1,66 @@
+-- The check walk: what stands in the words of an arena, chunk by chunk.
+use Prim.Native.Nat.{ℕ, zero, suc, _+_, _-_, _%_}
+use mathlib.Core.List.{List, [], _∷_}
+use mathlib.Core.Bool.{Bool, true, false, cond, _&&_}
+use lib.ListN.{length, getD}
+use lib.Dec.{leb, eqb}
+use Rattle.layout.specs.Numbers.{firstChunk, listWord, leastSize, liveMark, lawful}
+use Rattle.layout.specs.Chunks.{Chunk, free, live, size}
+
+-- what the walk meets at a place: the end; a chunk, with the start of the next free chunk that is now wanted, and whether this one is free; or words that are neither
+pub data Met : Type 0 where
+  end : Met
+  chunk : Chunk → ℕ → Bool → Met
+  nothing : Met
+
+-- what the walk finds from a place on
+pub data Walked : Type 0 where
+  broken : Walked
+  whole : List Chunk → Walked
+
+abbrev pub withChunk : Chunk → Walked → Walked
+withChunk k broken = broken
+withChunk k (whole ks) = whole (k ∷ ks)
+
+abbrev pub isWhole : Walked → Bool
+isWhole broken = false
+isWhole (whole ks) = true
+
+abbrev pub chunksIn : Walked → List Chunk
+chunksIn broken = []
+chunksIn (whole ks) = ks
+
+-- a size that may stand at word `c` of an arena of `n` words
+abbrev pub sizeFits : ℕ → ℕ → ℕ → Bool
+sizeFits n c s = eqb (s % 2) 0 && (leb leastSize s && leb s (n - c))
+
+-- what stands at word `c`, where the links so far want the next free chunk at `want`, and `joined` says that a free chunk ends at `c`
+unfoldable pub meet : List ℕ → ℕ → ℕ → Bool → Met
+meet a c want joined =
+    cond (eqb c (length a)) (cond (eqb want 0) end nothing)
+    (cond (sizeFits (length a) c (getD a c 0))
+    (cond (eqb (getD a (c + 1) 0) liveMark) (chunk (live (getD a c 0)) want false)
+    (cond joined nothing (cond (eqb want c) (chunk (free (getD a c 0)) (getD a (c + 1) 0) true) nothing)))
+    nothing)
+
+-- the chunks from word `c` on, of which at most `fuel` are passed
+unfoldable pub walk : ℕ → List ℕ → ℕ → ℕ → Bool → Walked
+walk zero a c want joined =
+    elim (meet a c want joined) [ end ↦ whole [] | chunk k w j ↦ broken | nothing ↦ broken ]
+walk (suc fuel) a c want joined =
+    elim (meet a c want joined) [ end ↦ whole [] | chunk k w j ↦ withChunk k (walk fuel a (c + size k) w j) | nothing ↦ broken ]
+
+-- the chunks from word `c` on: as many as the words left are always enough
+unfoldable pub walkFrom : List ℕ → ℕ → ℕ → Bool → Walked
+walkFrom a c want joined = walk (length a - c) a c want joined
+
+unfoldable pub walked : List ℕ → Walked
+walked a = walkFrom a firstChunk (getD a listWord 0) false
+
+-- the arena is sound
+unfoldable pub sound : List ℕ → Bool
+sound a = lawful (length a) && (eqb (getD a 0 0) (length a) && isWhole (walked a))
+
+-- the chunks of a sound arena
+unfoldable pub chunksOf : List ℕ → List Chunk
+chunksOf a = chunksIn (walked a)
