@@ -1,9 +1,9 @@
 // The layout of an arena: which words are lawful, what stands in them, and what a request needs.
 ghost use mathlib.Core.Path.{_≡_};
 ghost use mathlib.Core.Bool.{true, false};
-ghost use Prim.Native.Nat.{_+_, _≤_, _<_};
+ghost use Prim.Native.Nat.{_+_, _-_, _≤_, _<_};
 ghost use lib.ListN.{length};
-ghost use Rattle.layout.specs.Numbers.{lawful, greatestLength, greatestRequest};
+ghost use Rattle.layout.specs.Numbers.{lawful, greatestLength, headerWords};
 ghost use Rattle.layout.specs.Numbers.{need as needOf};
 ghost use Rattle.layout.specs.Walk.{walkFrom, isWhole, sound};
 ghost use Rattle.layout.specs.Reasons.{arenaGate, requestGate};
@@ -65,6 +65,16 @@ pub fn need(n: usize) -> usize
     ensures { λ r. ⌜ r ≡ needOf n ⌝ }
 {
     n + n % 2 + HEADER_WORDS
+}
+
+// The words of a block whose chunk has `size` words.
+pub fn block_words(size: usize) -> usize
+    ensures { λ r. ⌜ r ≡ size - headerWords ⌝ }
+{
+    if size < HEADER_WORDS {
+        return 0;
+    }
+    size - HEADER_WORDS
 }
 
 // The size of the chunk that may stand at word `c`, or 0 where none can.

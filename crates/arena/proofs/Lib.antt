@@ -1,0 +1,20 @@
+-- The laws of the rules, and the theorems about the calls.
+pub mod Gates
+pub mod Spots
+pub mod Standing
+pub mod Taking
+pub mod Joining
+pub mod Passing
+pub mod Searching
+pub mod Room
+pub mod Copying
+pub mod Releasing
+pub mod Allotting
+pub mod Tallying
+pub mod Finding
+pub mod Outcomes
+pub mod Merging
+pub mod Staying
+pub mod Moving
+pub mod Viewing
+pub mod Ordering

@@ -1,0 +1,144 @@
+-- The room of a live chunk, which is its own words and those of a free chunk right after it: how the code reads it, and the stores that make other chunks of it.
+use mathlib.Core.Path.{_≡_, refl, ap, _∙_}
+use mathlib.Core.Logic.{_≢_}
+use mathlib.Core.Bool.{true, false}
+use mathlib.Core.List.{List, [], _∷_, _++_}
+use Prim.Native.Nat.{ℕ, _+_, _%_, _≤_, _<_}
+use native.Mathlib.Omega.{arith}
+use lib.ListN.{length, getD, set}
+use Rattle.layout.specs.Numbers.{firstChunk, leastSize, greatestLength}
+use Rattle.layout.specs.Chunks.{Chunk, free, live, total, firstFree, write, written}
+use Rattle.layout.proofs.Holds.{Sizes, Spaced, holds-split, sizes-split, total-append, total-even, firstFree-within}
+use Rattle.layout.proofs.Written.{Arena}
+use Rattle.layout.proofs.Replace.{replaced}
+use Rattle.arena.specs.Rules.{join}
+use Rattle.arena.specs.Inside.{Stands, LiveAt, HasRoom, roomWords, roomAfter}
+use Rattle.arena.specs.declared.release.Room.{Room}
+use Rattle.arena.proofs.Standing.{Reads, reads}
+
+-- ---- the chunks of the room
+
+-- the free chunk right after a chunk, if there is one
+abbrev pub roomTail : List Chunk → List Chunk
+roomTail [] = []
+roomTail (free t ∷ ks) = free t ∷ []
+roomTail (live t ∷ ks) = []
+
+pub room-parts : (post : List Chunk) → post ≡ roomTail post ++ roomAfter post
+room-parts [] = refl
+room-parts (free t ∷ ks) = refl
+room-parts (live t ∷ ks) = refl
+
+pub room-words : (s : ℕ) (post : List Chunk) → roomWords s post ≡ s + total (roomTail post)
+room-words s [] = omega arith
+room-words s (free t ∷ ks) = omega arith
+room-words s (live t ∷ ks) = omega arith
+
+-- behind the room stands no free chunk
+pub room-spaced : (post : List Chunk) → Spaced false post → Spaced true (roomAfter post)
+room-spaced [] p = tt
+room-spaced (free t ∷ ks) p = p .1
+room-spaced (live t ∷ ks) p = p
+
+-- a free chunk in the chunk's place takes the whole room
+pub room-joins : (s : ℕ) (post : List Chunk) → join (free s) post ≡ free (roomWords s post) ∷ roomAfter post
+room-joins s [] = refl
+room-joins s (free t ∷ ks) = refl
+room-joins s (live t ∷ ks) = refl
+
+-- ---- the words of a live chunk: its size, and the next free chunk, which may stand right after it
+
+-- no chunk from word `c` on starts before it
+firstFree-past : (c : ℕ) (ks : List Chunk) (d : ℕ) → 0 < d → d < c → firstFree c ks 0 ≢ d
+firstFree-past c [] d n h = omega arith
+firstFree-past c (free s ∷ ks) d n h = omega arith
+firstFree-past c (live s ∷ ks) d n h = firstFree-past (c + s) ks d n (omega arith)
+
+-- the free chunk at `next`, right after it, is in the arena and belongs to the room
+abbrev pub NextJoins : List ℕ → ℕ → List Chunk → ℕ → ℕ → ℕ → Type 0
+NextJoins a s post chunk size next =
+    (leastSize ≤ getD a next 0) × (next + getD a next 0 ≤ length a) × HasRoom s post chunk (record { words = size + getD a next 0; next = getD a (next + 1) 0 })
+
+module _ (a : List ℕ) (pre : List Chunk) (s : ℕ) (link chunk : ℕ) where
+  next-joins : (post : List Chunk) → Reads a pre (live s) post link chunk → chunk ≡ firstChunk + total pre
+      → firstFree (chunk + s) post 0 ≡ chunk + s → NextJoins a s post chunk s (chunk + s)
+  next-joins [] r at e = absurd (omega arith)
+  next-joins (free t ∷ ks) r at e =
+      let h = holds-split a firstChunk pre (live s ∷ free t ∷ ks) 0 chunk at (r .arena .linked .1) .1 in
+      let z : (t % 2 ≡ 0) × (leastSize ≤ t) × Sizes ks = r .sizes-after in
+      rw (h .2 .0, h .2 .1) (z .1, omega arith, record { words-are = refl; next-is = ap (λ (c : ℕ). firstFree c ks 0) (omega arith) })
+  next-joins (live t ∷ ks) r at e =
+      let z : (t % 2 ≡ 0) × (leastSize ≤ t) × Sizes ks = r .sizes-after in
+      absurd (firstFree-past (chunk + s + t) ks (chunk + s) (omega arith) (omega arith) e)
+
+  next-apart : (post : List Chunk) → firstFree (chunk + s) post 0 ≢ chunk + s → HasRoom s post chunk (record { words = s; next = firstFree (chunk + s) post 0 })
+  next-apart [] n = record { words-are = refl; next-is = refl }
+  next-apart (free t ∷ ks) n = absurd (n refl)
+  next-apart (live t ∷ ks) n = record { words-are = refl; next-is = refl }
+
+-- what the code reads
+pub record Around (a : List ℕ) (link chunk size next : ℕ) : Type 0 where
+  pub below : link < chunk
+  pub least : leastSize ≤ size
+  pub inside : chunk + size ≤ length a
+  pub most : length a ≤ greatestLength
+  pub next-inside : next ≤ length a
+  pub next-room : next ≡ chunk + size → (leastSize ≤ getD a next 0) × (next + getD a next 0 ≤ length a)
+
+module _ (a : List ℕ) (pre : List Chunk) (s : ℕ) (post : List Chunk) (link chunk size next : ℕ) (st : Stands a pre (live s) post link chunk)
+    (size-is : size ≡ getD a chunk 0) (next-is : next ≡ getD a link 0) where
+  pub room-beside : next ≡ chunk + size → NextJoins a s post chunk size next
+  room-beside b =
+      let r = reads a pre (live s) post link chunk st in
+      let own : size ≡ s = size-is ∙ r .size-is in
+      rw (b, own) (next-joins a pre s link chunk post r (st .at-is) (omega (arith, r .names)))
+
+  pub room-alone : next ≢ chunk + size → HasRoom s post chunk (record { words = size; next = next })
+  room-alone n =
+      let r = reads a pre (live s) post link chunk st in
+      let own : size ≡ s = size-is ∙ r .size-is in
+      rw (own, next-is, r .names) (next-apart a pre s link chunk post (λ e. n (omega (arith, r .names))))
+
+pub around : (a : List ℕ) (link chunk size next : ℕ) → LiveAt a link chunk → size ≡ getD a chunk 0 → next ≡ getD a link 0 → Around a link chunk size next
+around a link chunk size next l e q =
+    let r = reads a (l .pre) (live (l .s)) (l .post) link chunk (l .stands) in
+    let n = firstFree-within (chunk + l .s) (l .post) in
+    record {
+      below = r .below;
+      least = omega arith;
+      inside = omega arith;
+      most = r .most;
+      next-inside = omega (arith, r .names);
+      next-room = λ b. let x = room-beside a (l .pre) (l .s) (l .post) link chunk size next (l .stands) e q b in (x .0, x .1);
+    }
+
+-- ---- the stores
+
+-- what is known of the room of a chunk, in numbers
+pub record Bounds (a : List ℕ) (s : ℕ) (post : List Chunk) (chunk : ℕ) (room : Room) : Type 0 where
+  pub even : room .words % 2 ≡ 0
+  pub least : s ≤ room .words
+  pub fits : chunk + room .words + total (roomAfter post) ≡ length a
+  pub next-fits : room .next ≤ length a
+
+module _ (a : List ℕ) (pre : List Chunk) (s : ℕ) (post : List Chunk) (link chunk : ℕ) (st : Stands a pre (live s) post link chunk)
+    (room : Room) (has : HasRoom s post chunk room) where
+  pub bounds : Bounds a s post chunk room
+  bounds =
+      let r = reads a pre (live s) post link chunk st in
+      let w : room .words ≡ s + total (roomTail post) = has .words-are ∙ room-words s post in
+      let p : total post ≡ total (roomTail post) + total (roomAfter post) = ap total (room-parts post) ∙ total-append (roomTail post) (roomAfter post) in
+      let z : Sizes (roomTail post ++ roomAfter post) = rw (← room-parts post) (r .sizes-after) in
+      let e : total (roomTail post) % 2 ≡ 0 = total-even (roomTail post) (sizes-split (roomTail post) (roomAfter post) z .0) in
+      let f = firstFree-within (chunk + roomWords s post) (roomAfter post) in
+      record { even = omega arith; least = omega arith; fits = omega arith; next-fits = omega (arith, has .next-is, has .words-are) }
+
+  -- the chunk and its room become `new`: one link is stored anew, and the headers of `new`
+  pub become : (new : List Chunk) → Sizes new → total new ≡ room .words
+      → written (pre ++ (new ++ roomAfter post)) a ≡ write chunk new (room .next) (set a link (firstFree chunk new (room .next)))
+  become new z t =
+      let r = reads a pre (live s) post link chunk st in
+      let w : room .words ≡ s + total (roomTail post) = has .words-are ∙ room-words s post in
+      let q : Arena a (pre ++ (live s ∷ roomTail post ++ roomAfter post)) = rw (room-parts post) at (r .arena) in
+      rw (has .next-is, st .link-is)
+      (replaced a pre (live s ∷ roomTail post) new (roomAfter post) chunk (chunk + roomWords s post) q (st .at-is) (omega (arith, room-words s post)) z (omega arith))

@@ -1,0 +1,25 @@
+use borrow.Author.Needs.{needs}
+use borrow.Author.Tests.{eq-eqb, ne-eqb}
+use Rattle.arena.specs.Inside.{linkAfter}
+use Rattle.arena.proofs.resize.link_after.Statement.{statement}
+use Rattle.arena.proofs.resize.link_after.Tie as tie
+use Rattle.arena.proofs.resize.link_after.Reads as reads
+use Rattle.arena.proofs.resize.link_after.Lts as lts
+
+returns : tie.Need-returns
+unfolding linkAfter
+returns c = rw (ne-eqb _ _ (c .if1 .taken))
+
+add-if2 : tie.Need-add-if2
+add-if2 c = search needs
+
+returns-2 : tie.Need-returns-2
+unfolding linkAfter
+returns-2 c = rw (eq-eqb _ _ (c .before .if1 .left), ne-eqb _ _ (c .if2 .taken))
+
+returns-3 : tie.Need-returns-3
+unfolding linkAfter
+returns-3 c = rw (eq-eqb _ _ (c .before .if1 .left), eq-eqb _ _ (c .if2 .left))
+
+pub link-after-spec : {M : Type 1} → statement M
+link-after-spec = tie.close (tie.spec returns add-if2 returns-2 returns-3)

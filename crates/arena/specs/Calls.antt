@@ -1,0 +1,69 @@
+-- The seven calls on an arena's words `a`: what each answers, and what each leaves. Reasons are looked for in the order of their numbers.
+use Prim.Native.Nat.{ℕ, _-_}
+use mathlib.Core.List.{List, [], _∷_}
+use mathlib.Core.Bool.{cond}
+use lib.ListN.{length, getD, take, drop}
+use Rattle.layout.specs.Numbers.{controlWords, headerWords, lawful, need}
+use Rattle.layout.specs.Chunks.{free, written}
+use Rattle.layout.specs.Walk.{chunksOf}
+use Rattle.layout.specs.Reasons.{arenaGate, requestGate}
+use Rattle.layout.specs.declared.Reason.the-variants.{Length, NotABlock, NoRoom}
+use Rattle.arena.specs.Answers.{Outcome, Result, refused, done, settle, pass}
+use Rattle.arena.specs.Spots.{Spot, nowhere, at, Policy, firstFit, held}
+use Rattle.arena.specs.Rules.{Way, shut, grants, orElse, grantFrom, grantedAt, allotted, shrink, grow, move, released, freeWords, widest, liveBlocks, freeChunks}
+
+-- a call on a block is refused where there is none
+abbrev pub onBlock : Spot → Result → Result
+onBlock nowhere result = refused NotABlock
+onBlock (at pre k post) result = result
+
+-- a call that grants is refused where its way is shut
+abbrev pub granted : Way → Result
+granted shut = refused NoRoom
+granted (grants block words after) = done (block ∷ words ∷ []) after
+
+unfoldable pub startOn : List ℕ → Outcome
+startOn a = settle 0 a (cond (lawful (length a)) (done [] (written (free (length a - controlWords) ∷ []) a)) (refused Length))
+
+-- alloc under a policy
+unfoldable pub allocBy : Policy → List ℕ → ℕ → Outcome
+allocBy policy a n =
+    settle 2 a
+    (pass (arenaGate a)
+    (pass (requestGate (length a) n)
+    (granted (allotted (grantFrom (need n) (policy (need n) (chunksOf a))) a))))
+
+abbrev pub allocOn : List ℕ → ℕ → Outcome
+allocOn a n = allocBy firstFit a n
+
+unfoldable pub freeOn : List ℕ → ℕ → Outcome
+freeOn a b =
+    let spot = held b (chunksOf a) in
+    settle 0 a (pass (arenaGate a) (onBlock spot (done [] (written (released spot) a))))
+
+unfoldable pub reallocOn : List ℕ → ℕ → ℕ → Outcome
+reallocOn a b n =
+    let spot = held b (chunksOf a) in
+    settle 2 a
+    (pass (arenaGate a)
+    (onBlock spot
+    (pass (requestGate (length a) n)
+    (granted
+    (orElse (shrink b (need n) spot a)
+    (orElse (grow b (need n) spot a) (move b (grantedAt spot) (grantFrom (need n) (firstFit (need n) (chunksOf a))) a)))))))
+
+unfoldable pub sizeOn : List ℕ → ℕ → Outcome
+sizeOn a b =
+    let spot = held b (chunksOf a) in
+    settle 1 a (pass (arenaGate a) (onBlock spot (done (grantedAt spot ∷ []) a)))
+
+-- the part of the arena that is the block: as many words from `b` on as size answers, none where size is refused
+unfoldable pub viewOn : List ℕ → ℕ → List ℕ
+viewOn a b = take (getD (sizeOn a b .answer .values) 0 0) (drop b a)
+
+unfoldable pub reportOn : List ℕ → Outcome
+reportOn a =
+    let ks = chunksOf a in
+    settle 4 a
+    (pass (arenaGate a)
+    (done (freeWords ks ∷ (widest ks - headerWords) ∷ liveBlocks ks ∷ freeChunks ks ∷ []) a))

@@ -1,0 +1,5 @@
+pub mod Answers
+pub mod Spots
+pub mod Rules
+pub mod Calls
+pub mod Inside

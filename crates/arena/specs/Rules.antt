@@ -1,0 +1,126 @@
+-- The rules of the calls, on chunks.
+use Prim.Native.Nat.{ℕ, zero, suc, _+_, _-_, max}
+use mathlib.Core.List.{List, [], _∷_, _++_}
+use mathlib.Core.Bool.{cond}
+use lib.ListN.{getD, set}
+use lib.Dec.{leb}
+use Rattle.layout.specs.Numbers.{firstChunk, headerWords, leastSplit}
+use Rattle.layout.specs.Chunks.{Chunk, free, live, size, total, written}
+use Rattle.arena.specs.Spots.{Spot, nowhere, at, held}
+
+-- how many of `s` words a need takes: just the need, where enough are over to be a chunk; otherwise all
+abbrev pub taken : ℕ → ℕ → ℕ
+taken need s = cond (leb leastSplit (s - need)) need s
+
+-- `s` free words of which a need is granted: it takes the last of them
+abbrev pub cut : ℕ → ℕ → List Chunk
+cut need s = cond (leb leastSplit (s - need)) (free (s - need) ∷ live need ∷ []) (live s ∷ [])
+
+-- `s` words of which a block keeps its need: it keeps the first of them
+abbrev pub trim : ℕ → ℕ → List Chunk
+trim need s = cond (leb leastSplit (s - need)) (live need ∷ free (s - need) ∷ []) (live s ∷ [])
+
+-- a chunk before others: a free one merges with a free one right after it
+abbrev pub join : Chunk → List Chunk → List Chunk
+join (live s) ks = live s ∷ ks
+join (free s) [] = free s ∷ []
+join (free s) (live t ∷ ks) = free s ∷ live t ∷ ks
+join (free s) (free t ∷ ks) = free (s + t) ∷ ks
+
+-- every two free neighbours are merged
+unfoldable pub joined : List Chunk → List Chunk
+joined [] = []
+joined (k ∷ ks) = join k (joined ks)
+
+-- the chunks after the one at a spot was freed
+abbrev pub released : Spot → List Chunk
+released nowhere = []
+released (at pre k post) = joined (pre ++ free (size k) ∷ post)
+
+-- the granted words of the chunk at a spot
+abbrev pub grantedAt : Spot → ℕ
+grantedAt nowhere = 0
+grantedAt (at pre k post) = size k - headerWords
+
+-- ---- alloc
+
+-- a new block, its granted words, and the chunks with it
+pub data Grant : Type 0 where
+  none : Grant
+  grant : ℕ → ℕ → List Chunk → Grant
+
+-- a need is granted from the free chunk at a spot
+abbrev pub grantFrom : ℕ → Spot → Grant
+grantFrom need nowhere = none
+grantFrom need (at pre k post) =
+    grant (firstChunk + total pre + (size k - taken need (size k)) + headerWords) (taken need (size k) - headerWords)
+    (pre ++ (cut need (size k) ++ post))
+
+-- ---- what a call that grants may come to: its way is shut, or it grants a block and leaves these words
+
+pub data Way : Type 0 where
+  shut : Way
+  grants : ℕ → ℕ → List ℕ → Way
+
+-- the first way that is not shut
+abbrev pub orElse : Way → Way → Way
+orElse shut other = other
+orElse (grants block granted words) other = grants block granted words
+
+-- a new block in the words `a`
+abbrev pub allotted : Grant → List ℕ → Way
+allotted none a = shut
+allotted (grant block granted ks) a = grants block granted (written ks a)
+
+-- ---- realloc of block `b`
+
+-- the block stays where it is and keeps its need of `s` words, if they are as many
+abbrev pub stay : ℕ → ℕ → List Chunk → ℕ → List Chunk → List ℕ → Way
+stay b need pre s post a =
+    cond (leb need s) (grants b (taken need s - headerWords) (written (joined (pre ++ (trim need s ++ post))) a)) shut
+
+-- way 1: of its own words
+abbrev pub shrink : ℕ → ℕ → Spot → List ℕ → Way
+shrink b need nowhere a = shut
+shrink b need (at pre k post) a = stay b need pre (size k) post a
+
+-- way 2: of its own words and those of the free chunk right after it
+abbrev pub grow : ℕ → ℕ → Spot → List ℕ → Way
+grow b need nowhere a = shut
+grow b need (at pre k []) a = shut
+grow b need (at pre k (live t ∷ post)) a = shut
+grow b need (at pre k (free t ∷ post)) a = stay b need pre (size k + t) post a
+
+-- the words `a` with `count` words from word `from` on stored from word `to` on
+unfoldable pub copied : ℕ → ℕ → ℕ → List ℕ → List ℕ
+copied from to zero a = a
+copied from to (suc k) a = set (copied from to k a) (to + k) (getD a (from + k) 0)
+
+-- way 3: a new block is granted with the old one still live, all the old granted words are copied, and the old block is freed
+abbrev pub move : ℕ → ℕ → Grant → List ℕ → Way
+move b count none a = shut
+move b count (grant block granted ks) a =
+    grants block granted (written (released (held b ks)) (copied b block count (written ks a)))
+
+-- ---- report
+
+abbrev pub freeWords : List Chunk → ℕ
+freeWords [] = 0
+freeWords (free s ∷ ks) = s + freeWords ks
+freeWords (live s ∷ ks) = freeWords ks
+
+-- the size of the largest free chunk, 0 if there is none
+abbrev pub widest : List Chunk → ℕ
+widest [] = 0
+widest (free s ∷ ks) = max s (widest ks)
+widest (live s ∷ ks) = widest ks
+
+abbrev pub liveBlocks : List Chunk → ℕ
+liveBlocks [] = 0
+liveBlocks (free s ∷ ks) = liveBlocks ks
+liveBlocks (live s ∷ ks) = 1 + liveBlocks ks
+
+abbrev pub freeChunks : List Chunk → ℕ
+freeChunks [] = 0
+freeChunks (free s ∷ ks) = 1 + freeChunks ks
+freeChunks (live s ∷ ks) = freeChunks ks

@@ -1,0 +1,173 @@
+// An allocator over one lent arena of 32-bit words. A call has no demands on its caller: it is done as the rules say, or it is refused with a reason and changes nothing.
+mod grant;
+mod places;
+mod release;
+mod resize;
+mod stores;
+mod tally;
+
+use grant::Way;
+use layout::Gate;
+use layout::Reason;
+use layout::wide;
+use places::Place;
+ghost use mathlib.Core.Path.{_≡_};
+ghost use Rattle.arena.specs.Answers.{Gives, finishNumbers, grantedNumbers, sizedNumbers, reportedNumbers};
+ghost use Rattle.arena.specs.Calls.{startOn, allocOn, freeOn, reallocOn, sizeOn, viewOn, reportOn};
+ghost use Rattle.arena.specs.Inside.{grantedOf};
+
+// What start and free answer.
+pub enum Finish {
+    Done,
+    Refused(layout::Reason),
+}
+
+// What alloc and realloc answer.
+pub enum Granted {
+    Block { block: u32, granted: u32 },
+    Refused(layout::Reason),
+}
+
+// What size answers: the granted words.
+pub enum Sized {
+    Words(u32),
+    Refused(layout::Reason),
+}
+
+// What report answers.
+pub enum Reported {
+    Counts {
+        free_words: u32,
+        largest: u32,
+        live_blocks: u32,
+        free_chunks: u32,
+    },
+    Refused(layout::Reason),
+}
+
+// Makes the whole arena one free chunk.
+pub fn start(a: &mut [u32]) -> Finish
+    ensures { λ r. ⌜ Gives (startOn (now (a .entry))) (finishNumbers r) (now (a .exit)) ⌝ }
+{
+    let n = a.len();
+    if layout::is_lawful(n) {
+        stores::put(a, 0, n, layout::FIRST_CHUNK);
+        stores::put(a, layout::FIRST_CHUNK, n - layout::CONTROL_WORDS, 0);
+        return Finish::Done;
+    }
+    Finish::Refused(Reason::Length)
+}
+
+// Grants a block of at least `n` words from the lowest free chunk that fits.
+pub fn alloc(a: &mut [u32], n: u32) -> Granted
+    ensures { λ r. ⌜ Gives (allocOn (now (a .entry)) n) (grantedNumbers r) (now (a .exit)) ⌝ }
+{
+    let arena = layout::check_arena(a);
+    if let Gate::Shut(why) = arena {
+        return Granted::Refused(why);
+    }
+    let request = layout::check_request(a.len(), wide(n));
+    if let Gate::Shut(why) = request {
+        return Granted::Refused(why);
+    }
+    let way = grant::allot(a, layout::need(wide(n)));
+    answer(way)
+}
+
+// Frees block `b`.
+pub fn free(a: &mut [u32], b: u32) -> Finish
+    ensures { λ r. ⌜ Gives (freeOn (now (a .entry)) b) (finishNumbers r) (now (a .exit)) ⌝ }
+{
+    let arena = layout::check_arena(a);
+    if let Gate::Shut(why) = arena {
+        return Finish::Refused(why);
+    }
+    let place = places::find(a, wide(b));
+    let Place::At(link, chunk) = place else {
+        return Finish::Refused(Reason::NotABlock);
+    };
+    release::release(a, link, chunk);
+    Finish::Done
+}
+
+// Makes block `b` one of at least `n` words: where it stands, or moved.
+pub fn realloc(a: &mut [u32], b: u32, n: u32) -> Granted
+    ensures { λ r. ⌜ Gives (reallocOn (now (a .entry)) b n) (grantedNumbers r) (now (a .exit)) ⌝ }
+{
+    let arena = layout::check_arena(a);
+    if let Gate::Shut(why) = arena {
+        return Granted::Refused(why);
+    }
+    let place = places::find(a, wide(b));
+    let Place::At(link, chunk) = place else {
+        return Granted::Refused(Reason::NotABlock);
+    };
+    let request = layout::check_request(a.len(), wide(n));
+    if let Gate::Shut(why) = request {
+        return Granted::Refused(why);
+    }
+    let way = resize::realloc_at(a, link, chunk, layout::need(wide(n)));
+    answer(way)
+}
+
+// The granted words of block `b`.
+pub fn size(a: &[u32], b: u32) -> Sized
+    ensures { λ r. ⌜ Gives (sizeOn (now (a .entry)) b) (sizedNumbers r) (now (a .entry)) ⌝ }
+{
+    let arena = layout::check_arena(a);
+    if let Gate::Shut(why) = arena {
+        return Sized::Refused(why);
+    }
+    let place = places::find(a, wide(b));
+    let Place::At(_, chunk) = place else {
+        return Sized::Refused(Reason::NotABlock);
+    };
+    Sized::Words(layout::block_words(wide(a[chunk])) as u32)
+}
+
+// The part of the arena that is block `b`, to read; no words where there is no such block.
+pub fn view(a: &[u32], b: u32) -> &[u32]
+    ensures { λ r. ⌜ now r ≡ viewOn (now (a .entry)) b ⌝ }
+{
+    let sized = size(a, b);
+    let Sized::Words(granted) = sized else {
+        return &a[..0];
+    };
+    let from = wide(b);
+    let to = from + wide(granted);
+    &a[from..to]
+}
+
+// The part of the arena that is block `b`, to read and to store into; no words where there is no such block.
+pub fn view_mut(a: &mut [u32], b: u32) -> &mut [u32]
+    ensures { λ r. ⌜ now r ≡ viewOn (now (a .entry)) b ⌝ }
+{
+    let sized = size(a, b);
+    let Sized::Words(granted) = sized else {
+        return &mut a[..0];
+    };
+    let from = wide(b);
+    let to = from + wide(granted);
+    &mut a[from..to]
+}
+
+// The free words, the largest request that would be granted now, the live blocks and the free chunks.
+pub fn report(a: &[u32]) -> Reported
+    ensures { λ r. ⌜ Gives (reportOn (now (a .entry))) (reportedNumbers r) (now (a .entry)) ⌝ }
+{
+    let arena = layout::check_arena(a);
+    if let Gate::Shut(why) = arena {
+        return Reported::Refused(why);
+    }
+    tally::reported(tally::count(a))
+}
+
+// A way as the answer of a call that grants.
+fn answer(way: Way) -> Granted
+    ensures { λ r. ⌜ r ≡ grantedOf way ⌝ }
+{
+    match way {
+        Way::Grants(block, granted) => Granted::Block { block, granted },
+        Way::Shut => Granted::Refused(Reason::NoRoom),
+    }
+}

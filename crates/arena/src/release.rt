@@ -1,0 +1,63 @@
+// Freeing a chunk, and the room that it has with the free chunk after it.
+use super::stores;
+use layout::wide;
+ghost use mathlib.Core.Path.{_≡_};
+ghost use mathlib.Core.List.{List};
+ghost use Prim.Native.Nat.{ℕ, _<_};
+ghost use lib.ListN.{length};
+ghost use Rattle.layout.specs.Chunks.{Chunk, live, written};
+ghost use Rattle.arena.specs.Spots.{at};
+ghost use Rattle.arena.specs.Rules.{released};
+ghost use Rattle.arena.specs.Inside.{Stands, LiveAt, HasRoom, endsAt};
+
+// A chunk together with a free chunk right after it, if there is one: their words, and the next free chunk behind them.
+pub(crate) struct Room {
+    pub words: usize,
+    pub next: usize,
+}
+
+// The room of the live chunk at `chunk`.
+pub(crate) fn room_at(a: &[u32], link: usize, chunk: usize) -> Room
+    requires { ⌜ LiveAt (now a) link chunk ⌝ }
+    ensures { λ r. ⌜ ((pre : List Chunk) (s : ℕ) (post : List Chunk) → Stands (now (a .entry)) pre (live s) post link chunk → HasRoom s post chunk r) ⌝ }
+{
+    let size = wide(a[chunk]);
+    let next = wide(a[link]);
+    if next == chunk + size {
+        let words = size + wide(a[next]);
+        return Room {
+            words,
+            next: wide(a[next + 1]),
+        };
+    }
+    Room { words: size, next }
+}
+
+// Whether the free chunk whose second word is `link` ends at `chunk`.
+fn ends_at(a: &[u32], link: usize, chunk: usize) -> bool
+    requires { ⌜ (link < chunk) × (chunk < length (now a)) ⌝ }
+    ensures { λ r. ⌜ r ≡ endsAt (now (a .entry)) link chunk ⌝ }
+{
+    if link <= layout::LIST_WORD {
+        return false;
+    }
+    let left = link - 1;
+    wide(a[left]) == chunk - left
+}
+
+// Frees the live chunk at `chunk`: merges it with a free chunk right after it, then with one right before it.
+pub(crate) fn release(a: &mut [u32], link: usize, chunk: usize)
+    requires { ⌜ LiveAt (now a) link chunk ⌝ }
+    ensures { λ _. ⌜ ((pre : List Chunk) (s : ℕ) (post : List Chunk) → Stands (now (a .entry)) pre (live s) post link chunk → now (a .exit) ≡ written (released (at pre (live s) post)) (now (a .entry))) ⌝ }
+{
+    let room = room_at(a, link, chunk);
+    let words = room.words;
+    let next = room.next;
+    if ends_at(a, link, chunk) {
+        let left = link - 1;
+        stores::put(a, left, chunk - left + words, next);
+        return;
+    }
+    stores::change(a, link, chunk);
+    stores::put(a, chunk, words, next);
+}

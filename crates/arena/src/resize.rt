@@ -1,0 +1,109 @@
+// The three ways of realloc.
+use super::grant;
+use super::grant::Piece;
+use super::grant::Way;
+use super::places;
+use super::places::Place;
+use super::release;
+use super::release::Room;
+use super::stores;
+use layout::wide;
+ghost use mathlib.Core.Path.{_≡_};
+ghost use mathlib.Core.List.{List};
+ghost use Prim.Native.Nat.{ℕ, _+_, _-_, _≤_, _<_};
+ghost use lib.ListN.{length, getD};
+ghost use Rattle.layout.specs.Numbers.{headerWords, greatestLength};
+ghost use Rattle.layout.specs.Chunks.{Chunk, live};
+ghost use Rattle.layout.specs.Walk.{chunksOf};
+ghost use Rattle.arena.specs.Spots.{at, firstFit};
+ghost use Rattle.arena.specs.Rules.{orElse, shrink, grow, move, grantFrom};
+ghost use Rattle.arena.specs.Inside.{Stands, LiveAt, Needed, Follows, RoomFor, splitOff, linkAfter};
+
+// The chunk at `chunk` keeps the first `need` words of its room, and the rest becomes a free chunk.
+fn split_off(a: &mut [u32], link: usize, chunk: usize, need: usize, room: Room)
+    requires { ⌜ RoomFor (length (now a)) link chunk need room ⌝ }
+    ensures { λ _. ⌜ now (a .exit) ≡ splitOff link chunk need room (now (a .entry)) ⌝ }
+{
+    let words = room.words;
+    let next = room.next;
+    let rest = chunk + need;
+    stores::change(a, link, rest);
+    stores::put_live(a, chunk, need);
+    stores::put(a, rest, words - need, next);
+}
+
+// Ways 1 and 2: the block stays where it is.
+fn resize(a: &mut [u32], link: usize, chunk: usize, need: usize) -> Way
+    requires { ⌜ LiveAt (now a) link chunk × Needed need ⌝ }
+    ensures { λ r. ⌜ ((pre : List Chunk) (s : ℕ) (post : List Chunk) → Stands (now (a .entry)) pre (live s) post link chunk → Follows (orElse (shrink (chunk + headerWords) need (at pre (live s) post) (now (a .entry))) (grow (chunk + headerWords) need (at pre (live s) post) (now (a .entry)))) (now (a .entry)) r (now (a .exit))) ⌝ }
+{
+    let size = wide(a[chunk]);
+    let room = release::room_at(a, link, chunk);
+    if need <= size {
+        if size - need < layout::LEAST_SPLIT {
+            return grant::grants(Piece { chunk, words: size });
+        }
+        split_off(a, link, chunk, need, room);
+        return grant::grants(Piece { chunk, words: need });
+    }
+    let words = room.words;
+    if words < need {
+        return Way::Shut;
+    }
+    if words - need < layout::LEAST_SPLIT {
+        let next = room.next;
+        stores::change(a, link, next);
+        stores::put_live(a, chunk, words);
+        return grant::grants(Piece { chunk, words });
+    }
+    split_off(a, link, chunk, need, room);
+    grant::grants(Piece { chunk, words: need })
+}
+
+// The word that names the first free chunk after a block, once the chunk `new` was made of the free chunk at `gap`: where that was taken whole, its second word names nothing any more, and the word that named it does.
+fn link_after(link: usize, gap_link: usize, gap: usize, new: usize) -> usize
+    requires { ⌜ gap ≤ greatestLength ⌝ }
+    ensures { λ r. ⌜ r ≡ linkAfter link «gap_link» gap new ⌝ }
+{
+    if gap != new {
+        return link;
+    }
+    if gap + 1 != link {
+        return link;
+    }
+    gap_link
+}
+
+// Way 3: the block moves, and the old one is freed once its words are copied.
+fn relocate(a: &mut [u32], link: usize, chunk: usize, need: usize) -> Way
+    requires { ⌜ LiveAt (now a) link chunk × Needed need × (getD (now a) chunk 0 < need) ⌝ }
+    ensures { λ r. ⌜ ((pre : List Chunk) (s : ℕ) (post : List Chunk) → Stands (now (a .entry)) pre (live s) post link chunk → Follows (move (chunk + headerWords) (s - headerWords) (grantFrom need (firstFit need (chunksOf (now (a .entry))))) (now (a .entry))) (now (a .entry)) r (now (a .exit))) ⌝ }
+{
+    let place = places::first_fit(a, need);
+    let Place::At(gap_link, gap) = place else {
+        return Way::Shut;
+    };
+    let count = layout::block_words(wide(a[chunk]));
+    let piece = grant::take(a, gap_link, gap, need);
+    let new = piece.chunk;
+    stores::copy(
+        a,
+        chunk + layout::HEADER_WORDS,
+        new + layout::HEADER_WORDS,
+        count,
+    );
+    release::release(a, link_after(link, gap_link, gap, new), chunk);
+    grant::grants(piece)
+}
+
+// The three ways in their order.
+pub(crate) fn realloc_at(a: &mut [u32], link: usize, chunk: usize, need: usize) -> Way
+    requires { ⌜ LiveAt (now a) link chunk × Needed need ⌝ }
+    ensures { λ r. ⌜ ((pre : List Chunk) (s : ℕ) (post : List Chunk) → Stands (now (a .entry)) pre (live s) post link chunk → Follows (orElse (shrink (chunk + headerWords) need (at pre (live s) post) (now (a .entry))) (orElse (grow (chunk + headerWords) need (at pre (live s) post) (now (a .entry))) (move (chunk + headerWords) (s - headerWords) (grantFrom need (firstFit need (chunksOf (now (a .entry))))) (now (a .entry))))) (now (a .entry)) r (now (a .exit))) ⌝ }
+{
+    let way = resize(a, link, chunk, need);
+    if let Way::Shut = way {
+        return relocate(a, link, chunk, need);
+    }
+    way
+}

@@ -1,0 +1,49 @@
+// The stores into an arena.
+use layout::wide;
+ghost use mathlib.Core.Path.{_≡_};
+ghost use Prim.Native.Nat.{_+_, _<_, _≤_};
+ghost use lib.ListN.{length, set};
+ghost use Rattle.layout.specs.Numbers.{liveMark};
+ghost use Rattle.layout.specs.Chunks.{header};
+ghost use Rattle.arena.specs.Rules.{copied};
+ghost use Rattle.arena.specs.Inside.{Beside};
+
+// Word `i` becomes `v`. One that is `v` already is not stored to: no call writes a word that its rule leaves as it is.
+pub(crate) fn change(a: &mut [u32], i: usize, v: usize)
+    requires { ⌜ (i < length (now a)) × (v < 4294967296) ⌝ }
+    ensures { λ _. ⌜ now (a .exit) ≡ set (now (a .entry)) i v ⌝ }
+{
+    if wide(a[i]) == v {
+        return;
+    }
+    a[i] = v as u32;
+}
+
+// Words `i` and `i + 1` become `v` and `w`.
+pub(crate) fn put(a: &mut [u32], i: usize, v: usize, w: usize)
+    requires { ⌜ (i + 1 < length (now a)) × (v < 4294967296) × (w < 4294967296) ⌝ }
+    ensures { λ _. ⌜ now (a .exit) ≡ header i v w (now (a .entry)) ⌝ }
+{
+    change(a, i, v);
+    change(a, i + 1, w);
+}
+
+// The header of a live chunk of `words` words at word `i`.
+pub(crate) fn put_live(a: &mut [u32], i: usize, words: usize)
+    requires { ⌜ (i + 1 < length (now a)) × (words < 4294967296) ⌝ }
+    ensures { λ _. ⌜ now (a .exit) ≡ header i words liveMark (now (a .entry)) ⌝ }
+{
+    put(a, i, words, wide(layout::LIVE_MARK));
+}
+
+// Copies `count` words from word `from` on to the words from `to` on, which are others.
+pub(crate) fn copy(a: &mut [u32], from: usize, to: usize, count: usize)
+    requires { ⌜ Beside (length (now a)) from to count ⌝ }
+    ensures { λ _. ⌜ now (a .exit) ≡ copied from to count (now (a .entry)) ⌝ }
+{
+    let mut k = 0;
+    while k < count {
+        a[to + k] = a[from + k];
+        k += 1;
+    }
+}
