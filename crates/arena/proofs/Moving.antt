@@ -3,26 +3,26 @@ use mathlib.Core.Path.{_≡_, refl, sym, ap, _∙_}
 use mathlib.Core.Logic.{_⊎_, inl, inr, ⊎-elim}
 use mathlib.Core.Bool.{Bool, true, false, cond}
 use mathlib.Core.List.{List, [], _∷_, _++_, append-assoc}
-use Prim.Native.Nat.{ℕ, zero, suc, _+_, _-_, _%_, _≤_, _<_}
+use Prim.Native.Nat.{ℕ, zero, suc, _+_, _-_, _≤_, _<_}
 use native.Mathlib.Omega.{arith}
 use lib.Dec.{leb, eqb}
-use lib.ListN.{length, getD, set}
-use borrow.Author.Tests.{eq-eqb, ne-eqb, leb-true, leb-false}
+use lib.ListN.{length}
+use borrow.Author.Tests.{eq-eqb, ne-eqb, leb-true}
 use Rattle.layout.specs.Numbers.{firstChunk, listWord, headerWords, leastSize, leastSplit}
 use Rattle.layout.specs.Chunks.{Chunk, free, live, size, total, written}
-use Rattle.layout.specs.Walk.{sound, chunksOf}
+use Rattle.layout.specs.Walk.{chunksOf}
 use Rattle.layout.specs.Links.{linkAt}
 use Rattle.layout.proofs.Holds.{Sizes, total-append, sizes-split}
 use Rattle.layout.proofs.Written.{Arena, written-arena, length-written}
 use Rattle.layout.proofs.Round.{arena-sound, arena-chunks}
 use Rattle.layout.proofs.Inside.{store-inside}
-use Rattle.arena.specs.Spots.{Spot, nowhere, at, isBlock, lowest, held, firstFit}
+use Rattle.arena.specs.Spots.{at, isBlock, held, firstFit}
 use Rattle.arena.specs.Rules.{taken, cut, copied, grantFrom, move, released}
 use Rattle.arena.specs.Inside.{Stands, Needed, Follows, Took, Beside, grantsOf, linkAfter}
 use Rattle.arena.specs.declared.grant.Way.the-variants.{Grants}
 use Rattle.arena.specs.declared.grant.Piece.{Piece}
 use Rattle.arena.proofs.Spots.{Missed, lowest-at}
-use Rattle.arena.proofs.Standing.{Reads, reads}
+use Rattle.arena.proofs.Standing.{reads}
 use Rattle.arena.proofs.Taking.{cut-lawful}
 
 -- ---- a live chunk and a free chunk of one list: which of them comes first

@@ -1,5 +1,5 @@
 -- The ways of realloc in their order.
-use mathlib.Core.Path.{_≡_, refl, sym, ap, _∙_}
+use mathlib.Core.Path.{_≡_, refl}
 use mathlib.Core.Bool.{Bool, true, false, cond}
 use mathlib.Core.List.{List}
 use Prim.Native.Nat.{ℕ, _<_}
@@ -11,7 +11,6 @@ use Rattle.arena.specs.Spots.{at}
 use Rattle.arena.specs.Rules.{Way as RuleWay}
 use Rattle.arena.specs.Rules.{shut, grants, orElse, shrink}
 use Rattle.arena.specs.Inside.{Follows}
-use Rattle.arena.specs.declared.grant.Way.{Way}
 use Rattle.arena.specs.declared.grant.Way.the-variants.{Grants, Shut}
 
 -- three ways in a row

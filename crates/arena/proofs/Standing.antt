@@ -1,21 +1,20 @@
 -- A chunk in its place: what the code reads there.
-use mathlib.Core.Path.{_≡_, refl, sym, ap, _∙_}
-use mathlib.Core.Bool.{Bool, true, false}
-use mathlib.Core.List.{List, [], _∷_, _++_}
+use mathlib.Core.Path.{_≡_, refl, ap, _∙_}
+use mathlib.Core.Bool.{Bool, true}
+use mathlib.Core.List.{List, _∷_, _++_}
 use Prim.Native.Nat.{ℕ, _+_, _%_, _≤_, _<_}
 use native.Mathlib.Omega.{arith}
 use lib.ListN.{length, getD}
 use Rattle.layout.specs.Numbers.{firstChunk, listWord, leastSize, greatestLength}
-use Rattle.layout.specs.Chunks.{Chunk, free, live, size, total, firstFree, second}
+use Rattle.layout.specs.Chunks.{Chunk, size, total, firstFree, second}
 use Rattle.layout.specs.Walk.{sound, chunksOf}
 use Rattle.layout.specs.Links.{linkAt}
-use Rattle.layout.proofs.Holds.{Sizes, Holds, holds-split, sizes-split, total-append, firstFree-append}
-use Rattle.layout.proofs.Linked.{Linked, linkAt-below, linkAt-holds}
+use Rattle.layout.proofs.Holds.{Sizes, holds-split, sizes-split, total-append, firstFree-append}
+use Rattle.layout.proofs.Linked.{linkAt-below, linkAt-holds}
 use Rattle.layout.proofs.Written.{Arena}
 use Rattle.layout.proofs.Round.{sound-chunks}
 use Rattle.arena.specs.Spots.{Spot, nowhere, at, lowest}
 use Rattle.arena.specs.Inside.{placeOf, Stands}
-use Rattle.arena.specs.declared.places.Place.{Place}
 use Rattle.arena.specs.declared.places.Place.the-variants.{At, Nowhere}
 use Rattle.arena.proofs.Spots.{lowest-hit}
 

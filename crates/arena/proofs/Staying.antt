@@ -1,26 +1,23 @@
 -- A block that stays where it is: the stores of ways 1 and 2 of realloc.
 use mathlib.Core.Path.{_≡_, refl, sym, ap, _∙_}
-use mathlib.Core.Bool.{Bool, true, false}
+use mathlib.Core.Bool.{false}
 use mathlib.Core.List.{List, [], _∷_, _++_}
-use Prim.Native.Nat.{ℕ, _+_, _-_, _%_, _≤_, _<_}
+use Prim.Native.Nat.{ℕ, _+_, _-_, _≤_, _<_}
 use native.Mathlib.Omega.{arith}
-use lib.Dec.{leb}
-use lib.ListN.{length, set}
+use lib.ListN.{set}
 use borrow.Author.Tests.{le-leb, lt-leb}
-use Rattle.layout.specs.Numbers.{firstChunk, listWord, headerWords, leastSize, leastSplit, liveMark}
-use Rattle.layout.specs.Chunks.{Chunk, free, live, total, firstFree, header, write, written}
-use Rattle.layout.specs.Links.{linkAt}
-use Rattle.layout.proofs.Holds.{Sizes, Spaced, sizes-split, total-append, total-even, firstFree-within, spaced-under, spaced-weaken}
-use Rattle.layout.proofs.Written.{Arena, written-fixed}
-use Rattle.layout.proofs.Replace.{replaced}
+use Rattle.layout.specs.Numbers.{headerWords, leastSplit, liveMark}
+use Rattle.layout.specs.Chunks.{Chunk, free, live, header, write, written}
+use Rattle.layout.proofs.Holds.{Spaced, spaced-under, spaced-weaken}
+use Rattle.layout.proofs.Written.{written-fixed}
 use Rattle.arena.specs.Spots.{at}
 use Rattle.arena.specs.Rules.{Way as RuleWay}
-use Rattle.arena.specs.Rules.{shut, grants, orElse, taken, trim, join, joined, stay, shrink, grow}
-use Rattle.arena.specs.Inside.{Stands, Needed, Follows, HasRoom, roomWords, roomAfter, splitOff, grantsOf}
+use Rattle.arena.specs.Rules.{shut, orElse, join, joined, stay, shrink, grow}
+use Rattle.arena.specs.Inside.{Stands, Needed, Follows, HasRoom, roomWords, roomAfter, splitOff}
 use Rattle.arena.specs.declared.grant.Way.{Way}
 use Rattle.arena.specs.declared.grant.Way.the-variants.{Grants, Shut}
 use Rattle.arena.specs.declared.release.Room.{Room}
-use Rattle.arena.proofs.Standing.{Reads, reads}
+use Rattle.arena.proofs.Standing.{reads}
 use Rattle.arena.proofs.Joining.{joined-spaced, spaced-after}
 use Rattle.arena.proofs.Merging.{joined-from}
 use Rattle.arena.proofs.Room.{room-spaced, bounds, become}

@@ -4,7 +4,7 @@ use mathlib.Core.Path.{_≡_}
 use mathlib.Core.Logic.{_⊎_}
 use mathlib.Core.Bool.{Bool, true, false, cond}
 use mathlib.Core.List.{List, [], _∷_, _++_}
-use lib.ListN.{length, getD, set}
+use lib.ListN.{getD, set}
 use lib.Dec.{leb, eqb}
 use Rattle.layout.specs.Numbers.{firstChunk, listWord, headerWords, leastSize, greatestLength, liveMark}
 use Rattle.layout.specs.Chunks.{Chunk, free, live, total, firstFree, header, written}

@@ -1,24 +1,28 @@
 -- The rules of the calls, on chunks.
 use Prim.Native.Nat.{ℕ, zero, suc, _+_, _-_, max}
 use mathlib.Core.List.{List, [], _∷_, _++_}
-use mathlib.Core.Bool.{cond}
+use mathlib.Core.Bool.{Bool, cond}
 use lib.ListN.{getD, set}
 use lib.Dec.{leb}
 use Rattle.layout.specs.Numbers.{firstChunk, headerWords, leastSplit}
 use Rattle.layout.specs.Chunks.{Chunk, free, live, size, total, written}
 use Rattle.arena.specs.Spots.{Spot, nowhere, at, held}
 
--- how many of `s` words a need takes: just the need, where enough are over to be a chunk; otherwise all
+-- enough of `s` words are over, behind a need, to be split off
+abbrev pub splits : ℕ → ℕ → Bool
+splits need s = leb leastSplit (s - need)
+
+-- how many of `s` words a need takes: just the need, where the rest is split off; otherwise all
 abbrev pub taken : ℕ → ℕ → ℕ
-taken need s = cond (leb leastSplit (s - need)) need s
+taken need s = cond (splits need s) need s
 
 -- `s` free words of which a need is granted: it takes the last of them
 abbrev pub cut : ℕ → ℕ → List Chunk
-cut need s = cond (leb leastSplit (s - need)) (free (s - need) ∷ live need ∷ []) (live s ∷ [])
+cut need s = cond (splits need s) (free (s - need) ∷ live need ∷ []) (live s ∷ [])
 
 -- `s` words of which a block keeps its need: it keeps the first of them
 abbrev pub trim : ℕ → ℕ → List Chunk
-trim need s = cond (leb leastSplit (s - need)) (live need ∷ free (s - need) ∷ []) (live s ∷ [])
+trim need s = cond (splits need s) (live need ∷ free (s - need) ∷ []) (live s ∷ [])
 
 -- a chunk before others: a free one merges with a free one right after it
 abbrev pub join : Chunk → List Chunk → List Chunk

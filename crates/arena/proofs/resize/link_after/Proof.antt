@@ -1,10 +1,9 @@
+-- `link_after` meets its contract: each return follows from the tests before it.
 use borrow.Author.Needs.{needs}
 use borrow.Author.Tests.{eq-eqb, ne-eqb}
 use Rattle.arena.specs.Inside.{linkAfter}
 use Rattle.arena.proofs.resize.link_after.Statement.{statement}
 use Rattle.arena.proofs.resize.link_after.Tie as tie
-use Rattle.arena.proofs.resize.link_after.Reads as reads
-use Rattle.arena.proofs.resize.link_after.Lts as lts
 
 returns : tie.Need-returns
 unfolding linkAfter

@@ -1,5 +1,5 @@
 -- `realloc_at` meets its contract: `resize` follows way 1 or way 2, or both are shut, nothing has changed, and `relocate` follows way 3.
-use mathlib.Core.Path.{_≡_, sym, _∙_}
+use mathlib.Core.Path.{_≡_}
 use mathlib.Core.List.{List}
 use Prim.Native.Nat.{ℕ, _+_, _<_}
 use lib.ListN.{getD}

@@ -10,7 +10,7 @@ use Rattle.arena.specs.Inside.{Stands, Took, Beside}
 use Rattle.arena.proofs.Standing.{Reads, reads, found-nowhere}
 use Rattle.arena.proofs.Finding.{FoundGap, found-gap}
 use Rattle.arena.proofs.Allotting.{took-small}
-use Rattle.arena.proofs.Moving.{Beyond, beyond, took-beside, took-stands, took-moved}
+use Rattle.arena.proofs.Moving.{beyond, took-beside, took-stands, took-moved}
 use borrow.Author.Needs.{needs}
 use Rattle.arena.proofs.resize.relocate.Statement.{statement}
 use Rattle.arena.proofs.resize.relocate.Tie as tie

@@ -1,12 +1,8 @@
+-- `split_off` meets its contract: its three stores are those of `splitOff`.
 use borrow.Author.Needs.{needs}
 use Rattle.arena.specs.Inside.{splitOff}
 use Rattle.arena.proofs.resize.split_off.Statement.{statement}
 use Rattle.arena.proofs.resize.split_off.Tie as tie
-use Rattle.arena.proofs.resize.split_off.Reads as reads
-use Rattle.arena.proofs.resize.split_off.Lts as lts
-use Rattle.arena.proofs.stores.change.Reads as change-reads
-use Rattle.arena.proofs.stores.put.Reads as put-reads
-use Rattle.arena.proofs.stores.put_live.Reads as put-live-reads
 
 add-rest : tie.Need-add-rest
 add-rest c = search needs
