@@ -11,8 +11,8 @@ use Rattle.layout.specs.Chunks.{Chunk, free, live, total, firstFree, header, wr
 use Rattle.layout.specs.Walk.{sound, chunksOf}
 use Rattle.layout.specs.Links.{linkAt}
 use Rattle.layout.specs.declared.Reason.the-variants.{NoRoom}
-use Rattle.arena.specs.Spots.{Spot, nowhere, at}
-use Rattle.arena.specs.Rules.{shut, grants, taken, cut}
+use Rattle.arena.specs.Spots.{Spot, nowhere, at, firstFit}
+use Rattle.arena.specs.Rules.{shut, grants, orElse, taken, cut, grantFrom, shrink, grow, move, released}
 use Rattle.arena.specs.Rules.{Way as RuleWay}
 use Rattle.arena.specs.declared.Granted.{Granted}
 use Rattle.arena.specs.declared.Granted.the-variants.{Block, Refused}
@@ -70,6 +70,11 @@ pub record Took (a : List ℕ) (pre : List Chunk) (s : ℕ) (post : List Chunk) 
   pub has : piece .words ≡ taken need s
   pub leaves : after ≡ written (pre ++ (cut need s ++ post)) a
 
+-- the same for whatever stands at `chunk`
+abbrev pub TakesAt : List ℕ → ℕ → ℕ → ℕ → Piece → List ℕ → Type 0
+TakesAt a link chunk need piece after =
+    (pre : List Chunk) (s : ℕ) (post : List Chunk) → Stands a pre (free s) post link chunk → Took a pre s post need piece after
+
 abbrev pub wayAnswer : RuleWay → Way
 wayAnswer shut = Shut
 wayAnswer (grants block granted words) = Grants block granted
@@ -82,6 +87,22 @@ wayWords (grants block granted words) a = words
 pub record Follows (way : RuleWay) (a : List ℕ) (answer : Way) (after : List ℕ) : Type 0 where
   pub answers : answer ≡ wayAnswer way
   pub leaves : after ≡ wayWords way a
+
+-- for the live chunk that stands at `chunk`, the way that a rule gives it was followed
+abbrev pub FollowsAt : List ℕ → ℕ → ℕ → (List Chunk → ℕ → List Chunk → RuleWay) → Way → List ℕ → Type 0
+FollowsAt a link chunk rule answer after =
+    (pre : List Chunk) (s : ℕ) (post : List Chunk) → Stands a pre (live s) post link chunk → Follows (rule pre s post) a answer after
+
+-- ways 1 and 2 of realloc, way 3, and all three in their order
+abbrev pub inPlace : ℕ → ℕ → List ℕ → List Chunk → ℕ → List Chunk → RuleWay
+inPlace b need a pre s post = orElse (shrink b need (at pre (live s) post) a) (grow b need (at pre (live s) post) a)
+
+abbrev pub byMove : ℕ → ℕ → List ℕ → List Chunk → ℕ → List Chunk → RuleWay
+byMove b need a pre s post = move b (s - headerWords) (grantFrom need (firstFit need (chunksOf a))) a
+
+abbrev pub inOrder : ℕ → ℕ → List ℕ → List Chunk → ℕ → List Chunk → RuleWay
+inOrder b need a pre s post =
+    orElse (shrink b need (at pre (live s) post) a) (orElse (grow b need (at pre (live s) post) a) (byMove b need a pre s post))
 
 abbrev pub grantsOf : Piece → Way
 grantsOf piece = Grants (piece .chunk + headerWords) (piece .words - headerWords)
@@ -106,6 +127,15 @@ roomAfter (live t ∷ ks) = live t ∷ ks
 pub record HasRoom (s : ℕ) (post : List Chunk) (chunk : ℕ) (room : Room) : Type 0 where
   pub words-are : room .words ≡ roomWords s post
   pub next-is : room .next ≡ firstFree (chunk + roomWords s post) (roomAfter post) 0
+
+abbrev pub RoomAt : List ℕ → ℕ → ℕ → Room → Type 0
+RoomAt a link chunk room =
+    (pre : List Chunk) (s : ℕ) (post : List Chunk) → Stands a pre (live s) post link chunk → HasRoom s post chunk room
+
+-- the live chunk that stands at `chunk` was freed
+abbrev pub FreedAt : List ℕ → ℕ → ℕ → List ℕ → Type 0
+FreedAt a link chunk after =
+    (pre : List Chunk) (s : ℕ) (post : List Chunk) → Stands a pre (live s) post link chunk → after ≡ written (released (at pre (live s) post)) a
 
 -- `need` words of the room of the chunk at `chunk` are kept, and the rest can be a chunk, in an arena of `n` words
 pub record RoomFor (n link chunk need : ℕ) (room : Room) : Type 0 where

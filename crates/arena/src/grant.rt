@@ -5,14 +5,12 @@ use super::stores;
 use layout::wide;
 ghost use mathlib.Core.Path.{_≡_};
 ghost use mathlib.Core.Bool.{true};
-ghost use mathlib.Core.List.{List};
-ghost use Prim.Native.Nat.{ℕ, _≤_};
+ghost use Prim.Native.Nat.{_≤_};
 ghost use Rattle.layout.specs.Numbers.{greatestLength};
-ghost use Rattle.layout.specs.Chunks.{Chunk, free};
 ghost use Rattle.layout.specs.Walk.{sound, chunksOf};
 ghost use Rattle.arena.specs.Spots.{firstFit};
 ghost use Rattle.arena.specs.Rules.{grantFrom, allotted};
-ghost use Rattle.arena.specs.Inside.{Stands, FitsAt, Needed, Took, Follows, grantsOf};
+ghost use Rattle.arena.specs.Inside.{FitsAt, Needed, TakesAt, Follows, grantsOf};
 
 // A live chunk: where it starts, and its words.
 pub(crate) struct Piece {
@@ -40,7 +38,7 @@ pub(crate) fn grants(piece: Piece) -> Way
 // Makes `need` words of the free chunk at `chunk` live: its last ones, or all of them where too few would be over.
 pub(crate) fn take(a: &mut [u32], link: usize, chunk: usize, need: usize) -> Piece
     requires { ⌜ FitsAt (now a) link chunk need ⌝ }
-    ensures { λ r. ⌜ ((pre : List Chunk) (s : ℕ) (post : List Chunk) → Stands (now (a .entry)) pre (free s) post link chunk → Took (now (a .entry)) pre s post need r (now (a .exit))) ⌝ }
+    ensures { λ r. ⌜ TakesAt (now (a .entry)) link chunk need r (now (a .exit)) ⌝ }
 {
     let size = wide(a[chunk]);
     let next = wide(a[chunk + 1]);

@@ -2,13 +2,9 @@
 use super::stores;
 use layout::wide;
 ghost use mathlib.Core.Path.{_≡_};
-ghost use mathlib.Core.List.{List};
-ghost use Prim.Native.Nat.{ℕ, _<_};
+ghost use Prim.Native.Nat.{_<_};
 ghost use lib.ListN.{length};
-ghost use Rattle.layout.specs.Chunks.{Chunk, live, written};
-ghost use Rattle.arena.specs.Spots.{at};
-ghost use Rattle.arena.specs.Rules.{released};
-ghost use Rattle.arena.specs.Inside.{Stands, LiveAt, HasRoom, endsAt};
+ghost use Rattle.arena.specs.Inside.{LiveAt, RoomAt, FreedAt, endsAt};
 
 // A chunk together with a free chunk right after it, if there is one: their words, and the next free chunk behind them.
 pub(crate) struct Room {
@@ -19,7 +15,7 @@ pub(crate) struct Room {
 // The room of the live chunk at `chunk`.
 pub(crate) fn room_at(a: &[u32], link: usize, chunk: usize) -> Room
     requires { ⌜ LiveAt (now a) link chunk ⌝ }
-    ensures { λ r. ⌜ ((pre : List Chunk) (s : ℕ) (post : List Chunk) → Stands (now (a .entry)) pre (live s) post link chunk → HasRoom s post chunk r) ⌝ }
+    ensures { λ r. ⌜ RoomAt (now (a .entry)) link chunk r ⌝ }
 {
     let size = wide(a[chunk]);
     let next = wide(a[link]);
@@ -48,7 +44,7 @@ fn ends_at(a: &[u32], link: usize, chunk: usize) -> bool
 // Frees the live chunk at `chunk`: merges it with a free chunk right after it, then with one right before it.
 pub(crate) fn release(a: &mut [u32], link: usize, chunk: usize)
     requires { ⌜ LiveAt (now a) link chunk ⌝ }
-    ensures { λ _. ⌜ ((pre : List Chunk) (s : ℕ) (post : List Chunk) → Stands (now (a .entry)) pre (live s) post link chunk → now (a .exit) ≡ written (released (at pre (live s) post)) (now (a .entry))) ⌝ }
+    ensures { λ _. ⌜ FreedAt (now (a .entry)) link chunk (now (a .exit)) ⌝ }
 {
     let room = room_at(a, link, chunk);
     let words = room.words;

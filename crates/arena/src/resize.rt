@@ -9,15 +9,10 @@ use super::release::Room;
 use super::stores;
 use layout::wide;
 ghost use mathlib.Core.Path.{_≡_};
-ghost use mathlib.Core.List.{List};
-ghost use Prim.Native.Nat.{ℕ, _+_, _-_, _≤_, _<_};
+ghost use Prim.Native.Nat.{_+_, _≤_, _<_};
 ghost use lib.ListN.{length, getD};
 ghost use Rattle.layout.specs.Numbers.{headerWords, greatestLength};
-ghost use Rattle.layout.specs.Chunks.{Chunk, live};
-ghost use Rattle.layout.specs.Walk.{chunksOf};
-ghost use Rattle.arena.specs.Spots.{at, firstFit};
-ghost use Rattle.arena.specs.Rules.{orElse, shrink, grow, move, grantFrom};
-ghost use Rattle.arena.specs.Inside.{Stands, LiveAt, Needed, Follows, RoomFor, splitOff, linkAfter};
+ghost use Rattle.arena.specs.Inside.{LiveAt, Needed, FollowsAt, inPlace, byMove, inOrder, RoomFor, splitOff, linkAfter};
 
 // The chunk at `chunk` keeps the first `need` words of its room, and the rest becomes a free chunk.
 fn split_off(a: &mut [u32], link: usize, chunk: usize, need: usize, room: Room)
@@ -35,7 +30,7 @@ fn split_off(a: &mut [u32], link: usize, chunk: usize, need: usize, room: Room)
 // Ways 1 and 2: the block stays where it is.
 fn resize(a: &mut [u32], link: usize, chunk: usize, need: usize) -> Way
     requires { ⌜ LiveAt (now a) link chunk × Needed need ⌝ }
-    ensures { λ r. ⌜ ((pre : List Chunk) (s : ℕ) (post : List Chunk) → Stands (now (a .entry)) pre (live s) post link chunk → Follows (orElse (shrink (chunk + headerWords) need (at pre (live s) post) (now (a .entry))) (grow (chunk + headerWords) need (at pre (live s) post) (now (a .entry)))) (now (a .entry)) r (now (a .exit))) ⌝ }
+    ensures { λ r. ⌜ FollowsAt (now (a .entry)) link chunk (inPlace (chunk + headerWords) need (now (a .entry))) r (now (a .exit)) ⌝ }
 {
     let size = wide(a[chunk]);
     let room = release::room_at(a, link, chunk);
@@ -77,7 +72,7 @@ fn link_after(link: usize, gap_link: usize, gap: usize, new: usize) -> usize
 // Way 3: the block moves, and the old one is freed once its words are copied.
 fn relocate(a: &mut [u32], link: usize, chunk: usize, need: usize) -> Way
     requires { ⌜ LiveAt (now a) link chunk × Needed need × (getD (now a) chunk 0 < need) ⌝ }
-    ensures { λ r. ⌜ ((pre : List Chunk) (s : ℕ) (post : List Chunk) → Stands (now (a .entry)) pre (live s) post link chunk → Follows (move (chunk + headerWords) (s - headerWords) (grantFrom need (firstFit need (chunksOf (now (a .entry))))) (now (a .entry))) (now (a .entry)) r (now (a .exit))) ⌝ }
+    ensures { λ r. ⌜ FollowsAt (now (a .entry)) link chunk (byMove (chunk + headerWords) need (now (a .entry))) r (now (a .exit)) ⌝ }
 {
     let place = places::first_fit(a, need);
     let Place::At(gap_link, gap) = place else {
@@ -99,7 +94,7 @@ fn relocate(a: &mut [u32], link: usize, chunk: usize, need: usize) -> Way
 // The three ways in their order.
 pub(crate) fn realloc_at(a: &mut [u32], link: usize, chunk: usize, need: usize) -> Way
     requires { ⌜ LiveAt (now a) link chunk × Needed need ⌝ }
-    ensures { λ r. ⌜ ((pre : List Chunk) (s : ℕ) (post : List Chunk) → Stands (now (a .entry)) pre (live s) post link chunk → Follows (orElse (shrink (chunk + headerWords) need (at pre (live s) post) (now (a .entry))) (orElse (grow (chunk + headerWords) need (at pre (live s) post) (now (a .entry))) (move (chunk + headerWords) (s - headerWords) (grantFrom need (firstFit need (chunksOf (now (a .entry))))) (now (a .entry))))) (now (a .entry)) r (now (a .exit))) ⌝ }
+    ensures { λ r. ⌜ FollowsAt (now (a .entry)) link chunk (inOrder (chunk + headerWords) need (now (a .entry))) r (now (a .exit)) ⌝ }
 {
     let way = resize(a, link, chunk, need);
     if let Way::Shut = way {

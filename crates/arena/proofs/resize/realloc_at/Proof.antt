@@ -6,9 +6,8 @@ use lib.ListN.{getD}
 use native.Mathlib.Omega.{arith}
 use Rattle.layout.specs.Numbers.{headerWords}
 use Rattle.layout.specs.Chunks.{Chunk, live}
-use Rattle.arena.specs.Spots.{at}
-use Rattle.arena.specs.Rules.{shut, orElse, shrink, grow}
-use Rattle.arena.specs.Inside.{Stands}
+use Rattle.arena.specs.Rules.{shut}
+use Rattle.arena.specs.Inside.{Stands, inPlace}
 use Rattle.arena.proofs.Standing.{reads}
 use Rattle.arena.proofs.Ordering.{ways-in-order, shut-way, open-way, shrink-shut}
 use borrow.Author.Needs.{needs}
@@ -18,7 +17,7 @@ use Rattle.arena.proofs.resize.realloc_at.Tie as tie
 -- ways 1 and 2 were shut, and changed nothing
 stopped : (c : tie.After-enum-told) → let d = c .before .before .before .before in let x = d .before .before .before .args in
     (pre : List Chunk) (s : ℕ) (post : List Chunk) → Stands (x .a .now) pre (live s) post (x .link) (x .chunk)
-    → (orElse (shrink (x .chunk + headerWords) (x .need) (at pre (live s) post) (x .a .now)) (grow (x .chunk + headerWords) (x .need) (at pre (live s) post) (x .a .now)) ≡ shut)
+    → (inPlace (x .chunk + headerWords) (x .need) (x .a .now) pre s post ≡ shut)
     × (d .resize .last .0 ≡ x .a .now)
 stopped c pre s post st = shut-way _ _ _ (rw (c .enum-told .given .1) at (c .before .before .before .before .resize .ensures pre s post st))
 
