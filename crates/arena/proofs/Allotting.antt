@@ -9,7 +9,8 @@ use Rattle.layout.specs.Numbers.{leastSplit, greatestLength}
 use Rattle.layout.specs.Walk.{chunksOf}
 use Rattle.arena.specs.Spots.{firstFit}
 use Rattle.arena.specs.Rules.{taken, grantFrom, allotted}
-use Rattle.arena.specs.Inside.{placeOf, FitsAt, Took, Follows, grantsOf}
+use Rattle.arena.specs.Inside.Places.{placeOf, FitsAt}
+use Rattle.arena.specs.Inside.Ways.{Took, Follows, grantsOf}
 use Rattle.arena.specs.declared.places.Place.the-variants.{Nowhere}
 use Rattle.arena.specs.declared.grant.Way.the-variants.{Shut}
 use Rattle.arena.specs.declared.grant.Piece.{Piece}

@@ -11,7 +11,7 @@ use lib.ListN.{length, getD, set, length-set}
 use lib.Seq.{getD-set-same, getD-set-other}
 use borrow.Author.Tests.{eqb-true, eqb-false}
 use Rattle.arena.specs.Rules.{copied}
-use Rattle.arena.specs.Inside.{Beside}
+use Rattle.arena.specs.Inside.Moves.{Beside}
 
 module _ (from to : ℕ) (a : List ℕ) where
   pub length-copied : (k : ℕ) → length (copied from to k a) ≡ length a

@@ -8,7 +8,7 @@ use Rattle.layout.specs.Numbers.{headerWords}
 use Rattle.layout.specs.Chunks.{Chunk, free, live}
 use Rattle.layout.specs.Walk.{sound, chunksOf}
 use Rattle.arena.specs.Spots.{at, fits, isBlock, firstFit, held}
-use Rattle.arena.specs.Inside.{placeOf, Stands, Needed, FitsAt, LiveAt}
+use Rattle.arena.specs.Inside.Places.{placeOf, Stands, Needed, FitsAt, LiveAt}
 use Rattle.arena.specs.declared.places.Place.the-variants.{At}
 use Rattle.arena.proofs.Standing.{found-at}
 

@@ -13,7 +13,7 @@ use Rattle.layout.specs.Reasons.{arenaGate, requestGate}
 use Rattle.layout.specs.declared.Gate.the-variants.{Open, Shut}
 use Rattle.layout.specs.declared.Reason.the-variants.{Length, Damaged, Zero, TooLarge}
 use Rattle.layout.proofs.Bools.{both, lawful-bounds}
-use Rattle.arena.specs.Inside.{Needed}
+use Rattle.arena.specs.Inside.Places.{Needed}
 
 pub gate-open : (a : List ℕ) → Open ≡ arenaGate a → sound a ≡ true
 unfolding arenaGate
@@ -42,8 +42,10 @@ request-bounds size n e = go (eqb n 0) (leb n (greatestRequest size)) refl refl 
 pub request-small : (size n : ℕ) → lawful size ≡ true → Open ≡ requestGate size n → n ≤ greatestLength
 request-small size n l e = omega (arith, lawful-bounds size l, request-bounds size n e)
 
-pub request-open : (size n : ℕ) → lawful size ≡ true → Open ≡ requestGate size n → Needed (need n)
-request-open size n l e =
+pub request-needed : (size n : ℕ) → lawful size ≡ true → (1 ≤ n) × (n ≤ greatestRequest size) → Needed (need n)
+request-needed size n l r =
     let b = lawful-bounds size l in
-    let r = request-bounds size n e in
     record { even = omega arith; least = omega arith; most = omega arith }
+
+pub request-open : (size n : ℕ) → lawful size ≡ true → Open ≡ requestGate size n → Needed (need n)
+request-open size n l e = request-needed size n l (request-bounds size n e)

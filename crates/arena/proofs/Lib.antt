@@ -18,3 +18,13 @@ pub mod Staying
 pub mod Moving
 pub mod Viewing
 pub mod Ordering
+pub mod Determined
+pub mod Blocks
+pub mod Causes
+pub mod Cases
+pub mod Regranting
+pub mod Refusing
+pub mod Starting
+pub mod Keeping
+pub mod Reasons
+pub mod Largest

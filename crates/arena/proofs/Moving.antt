@@ -18,7 +18,9 @@ use Rattle.layout.proofs.Round.{arena-sound, arena-chunks}
 use Rattle.layout.proofs.Inside.{store-inside}
 use Rattle.arena.specs.Spots.{at, isBlock, held, firstFit}
 use Rattle.arena.specs.Rules.{taken, cut, copied, grantFrom, move, released}
-use Rattle.arena.specs.Inside.{Stands, Needed, Follows, Took, Beside, grantsOf, linkAfter}
+use Rattle.arena.specs.Inside.Places.{Stands, Needed}
+use Rattle.arena.specs.Inside.Ways.{Follows, Took, grantsOf}
+use Rattle.arena.specs.Inside.Moves.{Beside, linkAfter}
 use Rattle.arena.specs.declared.grant.Way.the-variants.{Grants}
 use Rattle.arena.specs.declared.grant.Piece.{Piece}
 use Rattle.arena.proofs.Spots.{Missed, lowest-at}

@@ -10,7 +10,7 @@ use Rattle.layout.specs.Chunks.{Chunk, live}
 use Rattle.arena.specs.Spots.{at}
 use Rattle.arena.specs.Rules.{Way as RuleWay}
 use Rattle.arena.specs.Rules.{shut, grants, orElse, shrink}
-use Rattle.arena.specs.Inside.{Follows}
+use Rattle.arena.specs.Inside.Ways.{Follows}
 use Rattle.arena.specs.declared.grant.Way.the-variants.{Grants, Shut}
 
 -- three ways in a row

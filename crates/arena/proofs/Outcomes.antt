@@ -6,7 +6,7 @@ use Rattle.arena.specs.Answers.{settle, Gives, grantedNumbers}
 use Rattle.arena.specs.Rules.{Way as RuleWay}
 use Rattle.arena.specs.Rules.{shut, grants}
 use Rattle.arena.specs.Calls.{granted}
-use Rattle.arena.specs.Inside.{Follows, grantedOf}
+use Rattle.arena.specs.Inside.Ways.{Follows, grantedOf}
 use Rattle.arena.specs.declared.grant.Way.{Way}
 
 pub way-gives : (way : RuleWay) (a : List ℕ) (answer : Way) (after : List ℕ) → Follows way a answer after

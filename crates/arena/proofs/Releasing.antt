@@ -15,7 +15,8 @@ use Rattle.layout.proofs.Holds.{Sizes, Holds, Spaced, holds-split, spaced-left,
 use Rattle.layout.proofs.Written.{Arena}
 use Rattle.layout.proofs.Replace.{replaced-same}
 use Rattle.arena.specs.Rules.{join, joined}
-use Rattle.arena.specs.Inside.{Stands, HasRoom, roomWords, roomAfter, endsAt}
+use Rattle.arena.specs.Inside.Places.{Stands}
+use Rattle.arena.specs.Inside.Rooms.{HasRoom, roomWords, roomAfter, endsAt}
 use Rattle.arena.specs.declared.release.Room.{Room}
 use Rattle.arena.proofs.Standing.{reads}
 use Rattle.arena.proofs.Joining.{Closed, spaced-after, joined-spaced, joined-front, Ending, closed, in-free, ending}

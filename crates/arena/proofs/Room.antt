@@ -12,7 +12,8 @@ use Rattle.layout.proofs.Holds.{Sizes, Spaced, holds-split, sizes-split, total-
 use Rattle.layout.proofs.Written.{Arena}
 use Rattle.layout.proofs.Replace.{replaced}
 use Rattle.arena.specs.Rules.{join}
-use Rattle.arena.specs.Inside.{Stands, LiveAt, HasRoom, roomWords, roomAfter}
+use Rattle.arena.specs.Inside.Places.{Stands, LiveAt}
+use Rattle.arena.specs.Inside.Rooms.{HasRoom, roomWords, roomAfter}
 use Rattle.arena.specs.declared.release.Room.{Room}
 use Rattle.arena.proofs.Standing.{Reads, reads}
 

@@ -10,7 +10,7 @@ use Rattle.layout.specs.Numbers.{firstChunk, listWord}
 use Rattle.layout.specs.Chunks.{Chunk, free, live}
 use Rattle.layout.specs.Walk.{sound, chunksOf}
 use Rattle.arena.specs.Spots.{lowest, fits}
-use Rattle.arena.specs.Inside.{placeOf}
+use Rattle.arena.specs.Inside.Places.{placeOf}
 use Rattle.arena.specs.declared.places.Place.{Place}
 use Rattle.arena.specs.declared.places.Place.the-variants.{At, Nowhere}
 use Rattle.arena.proofs.Spots.{placeFrom, place-from, place-here, place-past-live, place-past-free}

@@ -8,7 +8,7 @@ use Rattle.layout.specs.Numbers.{firstChunk, listWord}
 use Rattle.layout.specs.Chunks.{Chunk, free, live, size, total}
 use Rattle.layout.specs.Links.{linkAt}
 use Rattle.arena.specs.Spots.{Spot, nowhere, at, behind, lowest}
-use Rattle.arena.specs.Inside.{placeOf}
+use Rattle.arena.specs.Inside.Places.{placeOf}
 use Rattle.arena.specs.declared.places.Place.{Place}
 use Rattle.arena.specs.declared.places.Place.the-variants.{At, Nowhere}
 

@@ -14,7 +14,7 @@ use Rattle.layout.proofs.Linked.{linkAt-below, linkAt-holds}
 use Rattle.layout.proofs.Written.{Arena}
 use Rattle.layout.proofs.Round.{sound-chunks}
 use Rattle.arena.specs.Spots.{Spot, nowhere, at, lowest}
-use Rattle.arena.specs.Inside.{placeOf, Stands}
+use Rattle.arena.specs.Inside.Places.{placeOf, Stands}
 use Rattle.arena.specs.declared.places.Place.the-variants.{At, Nowhere}
 use Rattle.arena.proofs.Spots.{lowest-hit}
 

@@ -12,8 +12,10 @@ use Rattle.layout.proofs.Holds.{Spaced, spaced-under, spaced-weaken}
 use Rattle.layout.proofs.Written.{written-fixed}
 use Rattle.arena.specs.Spots.{at}
 use Rattle.arena.specs.Rules.{Way as RuleWay}
-use Rattle.arena.specs.Rules.{shut, orElse, join, joined, stay, shrink, grow}
-use Rattle.arena.specs.Inside.{Stands, Needed, Follows, inPlace, HasRoom, roomWords, roomAfter, splitOff}
+use Rattle.arena.specs.Rules.{shut, join, joined, stay, grow}
+use Rattle.arena.specs.Inside.Places.{Stands, Needed}
+use Rattle.arena.specs.Inside.Ways.{Follows, inPlace}
+use Rattle.arena.specs.Inside.Rooms.{HasRoom, roomWords, roomAfter, splitOff}
 use Rattle.arena.specs.declared.grant.Way.{Way}
 use Rattle.arena.specs.declared.grant.Way.the-variants.{Grants, Shut}
 use Rattle.arena.specs.declared.release.Room.{Room}

@@ -12,7 +12,8 @@ use Rattle.layout.specs.Chunks.{Chunk, free, live, header, write}
 use Rattle.layout.proofs.Holds.{Sizes, Lawful, sizes-split, spaced-weaken, firstFree-within}
 use Rattle.layout.proofs.Replace.{replaced, replaced-same, lawful-replaced}
 use Rattle.arena.specs.Rules.{cut}
-use Rattle.arena.specs.Inside.{Stands, FitsAt, Needed, Took}
+use Rattle.arena.specs.Inside.Places.{Stands, FitsAt, Needed}
+use Rattle.arena.specs.Inside.Ways.{Took}
 use Rattle.arena.proofs.Standing.{reads}
 
 -- ---- the chunks stay lawful

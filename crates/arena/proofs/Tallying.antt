@@ -11,7 +11,7 @@ use Rattle.layout.specs.Chunks.{Chunk, free, live, total}
 use Rattle.layout.specs.Walk.{sound, chunksOf}
 use Rattle.layout.proofs.Holds.{Sizes}
 use Rattle.arena.specs.Rules.{freeWords, widest, liveBlocks, freeChunks}
-use Rattle.arena.specs.Inside.{noChunks, withFree, withLive, tallied, Below}
+use Rattle.arena.specs.Inside.Tallies.{noChunks, withFree, withLive, tallied, Below}
 use Rattle.arena.specs.declared.tally.Tally.{Tally}
 use Rattle.arena.proofs.Passing.{Left, all-left, past-live, past-free}
 

@@ -8,31 +8,21 @@ use Rattle.layout.specs.Numbers.{firstChunk, listWord, headerWords}
 use Rattle.layout.specs.Chunks.{live, size, total}
 use Rattle.layout.specs.Walk.{chunksOf}
 use Rattle.layout.specs.Links.{linkAt}
-use Rattle.layout.specs.Reasons.{number, arenaGate}
+use Rattle.layout.specs.Reasons.{arenaGate}
 use Rattle.layout.specs.declared.Gate.{Gate}
 use Rattle.layout.specs.declared.Gate.the-variants.{Open, Shut}
 use Rattle.layout.specs.declared.Reason.{Reason}
-use Rattle.layout.specs.declared.Reason.the-variants.{Length, Damaged, NotABlock, Zero, TooLarge, NoRoom, Frame}
+use Rattle.layout.proofs.Reasons.{number-positive}
 use Rattle.arena.specs.declared.Sized.{Sized}
 use Rattle.arena.specs.declared.Sized.the-variants.{Words, Refused as NotSized}
 use Rattle.arena.specs.Answers.{Answer, success, sizedNumbers, done, settle, pass}
 use Rattle.arena.specs.Spots.{Spot, nowhere, at, held}
 use Rattle.arena.specs.Rules.{grantedAt}
 use Rattle.arena.specs.Calls.{onBlock, sizeOn, viewOn}
-use Rattle.arena.specs.Inside.{placeOf}
+use Rattle.arena.specs.Inside.Places.{placeOf}
 use Rattle.arena.proofs.Gates.{gate-open}
 use Rattle.arena.proofs.Standing.{reads}
 use Rattle.arena.proofs.Finding.{found-block}
-
--- the code of a refusal is not that of a success
-pub number-positive : (why : Reason) → 1 ≤ number why
-number-positive Length = omega arith
-number-positive Damaged = omega arith
-number-positive NotABlock = omega arith
-number-positive Zero = omega arith
-number-positive TooLarge = omega arith
-number-positive NoRoom = omega arith
-number-positive Frame = omega arith
 
 -- `size` answers `sized` for block `b` of the arena `a`
 module _ (a : List ℕ) (b : ℕ) (sized : Sized) (answers : sizedNumbers sized ≡ sizeOn a b .answer) where

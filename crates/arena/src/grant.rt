@@ -10,7 +10,8 @@ ghost use Rattle.layout.specs.Numbers.{greatestLength};
 ghost use Rattle.layout.specs.Walk.{sound, chunksOf};
 ghost use Rattle.arena.specs.Spots.{firstFit};
 ghost use Rattle.arena.specs.Rules.{grantFrom, allotted};
-ghost use Rattle.arena.specs.Inside.{FitsAt, Needed, TakesAt, Follows, grantsOf};
+ghost use Rattle.arena.specs.Inside.Places.{FitsAt, Needed};
+ghost use Rattle.arena.specs.Inside.Ways.{TakesAt, Follows, grantsOf};
 
 // A live chunk: where it starts, and its words.
 pub(crate) struct Piece {

@@ -14,7 +14,7 @@ use places::Place;
 ghost use mathlib.Core.Path.{_≡_};
 ghost use Rattle.arena.specs.Answers.{Gives, finishNumbers, grantedNumbers, sizedNumbers, reportedNumbers};
 ghost use Rattle.arena.specs.Calls.{startOn, allocOn, freeOn, reallocOn, sizeOn, viewOn, reportOn};
-ghost use Rattle.arena.specs.Inside.{grantedOf};
+ghost use Rattle.arena.specs.Inside.Ways.{grantedOf};
 
 // What start and free answer.
 pub enum Finish {

@@ -4,7 +4,7 @@ ghost use mathlib.Core.Path.{_≡_};
 ghost use mathlib.Core.Bool.{true};
 ghost use Rattle.layout.specs.Walk.{sound, chunksOf};
 ghost use Rattle.arena.specs.Spots.{held, firstFit};
-ghost use Rattle.arena.specs.Inside.{placeOf};
+ghost use Rattle.arena.specs.Inside.Places.{placeOf};
 
 // A chunk that a search found: the word that names the first free chunk after those below it, and its start.
 pub(crate) enum Place {

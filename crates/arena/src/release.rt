@@ -4,7 +4,8 @@ use layout::wide;
 ghost use mathlib.Core.Path.{_≡_};
 ghost use Prim.Native.Nat.{_<_};
 ghost use lib.ListN.{length};
-ghost use Rattle.arena.specs.Inside.{LiveAt, RoomAt, FreedAt, endsAt};
+ghost use Rattle.arena.specs.Inside.Places.{LiveAt};
+ghost use Rattle.arena.specs.Inside.Rooms.{RoomAt, FreedAt, endsAt};
 
 // A chunk together with a free chunk right after it, if there is one: their words, and the next free chunk behind them.
 pub(crate) struct Room {

@@ -12,7 +12,10 @@ ghost use mathlib.Core.Path.{_≡_};
 ghost use Prim.Native.Nat.{_+_, _≤_, _<_};
 ghost use lib.ListN.{length, getD};
 ghost use Rattle.layout.specs.Numbers.{headerWords, greatestLength};
-ghost use Rattle.arena.specs.Inside.{LiveAt, Needed, FollowsAt, inPlace, byMove, inOrder, RoomFor, splitOff, linkAfter};
+ghost use Rattle.arena.specs.Inside.Places.{LiveAt, Needed};
+ghost use Rattle.arena.specs.Inside.Ways.{FollowsAt, inPlace, byMove, inOrder};
+ghost use Rattle.arena.specs.Inside.Rooms.{RoomFor, splitOff};
+ghost use Rattle.arena.specs.Inside.Moves.{linkAfter};
 
 // The chunk at `chunk` keeps the first `need` words of its room, and the rest becomes a free chunk.
 fn split_off(a: &mut [u32], link: usize, chunk: usize, need: usize, room: Room)

@@ -6,7 +6,7 @@ ghost use lib.ListN.{length, set};
 ghost use Rattle.layout.specs.Numbers.{liveMark};
 ghost use Rattle.layout.specs.Chunks.{header};
 ghost use Rattle.arena.specs.Rules.{copied};
-ghost use Rattle.arena.specs.Inside.{Beside};
+ghost use Rattle.arena.specs.Inside.Moves.{Beside};
 
 // Word `i` becomes `v`. One that is `v` already is not stored to: no call writes a word that its rule leaves as it is.
 pub(crate) fn change(a: &mut [u32], i: usize, v: usize)

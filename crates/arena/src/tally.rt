@@ -6,7 +6,7 @@ ghost use mathlib.Core.Bool.{true};
 ghost use Prim.Native.Nat.{_≤_, max};
 ghost use Rattle.layout.specs.Numbers.{greatestLength};
 ghost use Rattle.layout.specs.Walk.{sound, chunksOf};
-ghost use Rattle.arena.specs.Inside.{noChunks, withFree, withLive, tallied, Below, reportOf};
+ghost use Rattle.arena.specs.Inside.Tallies.{noChunks, withFree, withLive, tallied, Below, reportOf};
 
 // Chunks counted: the words of the free ones, the size of the widest of them, the live ones, the free ones.
 pub(crate) struct Tally {

@@ -8,3 +8,4 @@ pub mod Replace
 pub mod Round
 pub mod Inside
 pub mod Counts
+pub mod Reasons

@@ -2,7 +2,7 @@
 -- Assumes nothing.
 use mathlib.Core.Path.{sym, ap}
 use borrow.Author.Needs.{needs}
-use Rattle.arena.specs.Inside.{grantedOf}
+use Rattle.arena.specs.Inside.Ways.{grantedOf}
 use Rattle.arena.proofs.answer.Statement.{statement}
 use Rattle.arena.proofs.answer.Tie as tie
 

@@ -6,7 +6,7 @@ use Rattle.layout.specs.Reasons.{arenaGate}
 use Rattle.layout.specs.declared.Gate.the-variants.{Open}
 use Rattle.arena.specs.Spots.{held}
 use Rattle.arena.specs.Calls.{freeOn}
-use Rattle.arena.specs.Inside.{placeOf}
+use Rattle.arena.specs.Inside.Places.{placeOf}
 use Rattle.arena.proofs.Gates.{gate-open}
 use Rattle.arena.proofs.Standing.{found-nowhere}
 use Rattle.arena.proofs.Finding.{FoundBlock, found-block}

@@ -12,7 +12,7 @@ use Rattle.layout.specs.declared.Gate.the-variants.{Open}
 use Rattle.arena.specs.Answers.{success}
 use Rattle.arena.specs.Spots.{held}
 use Rattle.arena.specs.Calls.{sizeOn}
-use Rattle.arena.specs.Inside.{placeOf}
+use Rattle.arena.specs.Inside.Places.{placeOf}
 use Rattle.arena.proofs.Gates.{gate-open}
 use Rattle.arena.proofs.Standing.{reads, found-nowhere}
 use Rattle.arena.proofs.Finding.{FoundBlock, found-block}

@@ -10,7 +10,7 @@ use borrow.Author.Tests.{eq-eqb, ne-eqb}
 use Rattle.layout.specs.Numbers.{leastSize}
 use Rattle.layout.specs.Walk.{chunksOf}
 use Rattle.arena.specs.Spots.{isBlock, held}
-use Rattle.arena.specs.Inside.{placeOf}
+use Rattle.arena.specs.Inside.Places.{placeOf}
 use Rattle.arena.proofs.Passing.{size-here, live-here, free-here}
 use Rattle.arena.proofs.Searching.{Searching, search-begins, search-stops, search-past-live, search-past-free, search-ends}
 use Rattle.arena.proofs.places.find.Statement.{statement}

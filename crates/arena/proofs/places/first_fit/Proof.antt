@@ -11,7 +11,7 @@ use Rattle.layout.specs.Numbers.{firstChunk}
 use Rattle.layout.specs.Chunks.{Chunk, free}
 use Rattle.layout.specs.Walk.{chunksOf}
 use Rattle.arena.specs.Spots.{fits, firstFit}
-use Rattle.arena.specs.Inside.{placeOf}
+use Rattle.arena.specs.Inside.Places.{placeOf}
 use Rattle.arena.proofs.Searching.{Going, Searching, search-begins, search-stops, search-past-free, links-end, link-names}
 use Rattle.arena.proofs.places.first_fit.Statement.{statement}
 use Rattle.arena.proofs.places.first_fit.Tie as tie

@@ -1,7 +1,7 @@
 -- `link_after` meets its contract: each return follows from the tests before it.
 use borrow.Author.Needs.{needs}
 use borrow.Author.Tests.{eq-eqb, ne-eqb}
-use Rattle.arena.specs.Inside.{linkAfter}
+use Rattle.arena.specs.Inside.Moves.{linkAfter}
 use Rattle.arena.proofs.resize.link_after.Statement.{statement}
 use Rattle.arena.proofs.resize.link_after.Tie as tie
 

@@ -7,7 +7,8 @@ use native.Mathlib.Omega.{arith}
 use Rattle.layout.specs.Numbers.{headerWords}
 use Rattle.layout.specs.Chunks.{Chunk, live}
 use Rattle.arena.specs.Rules.{shut}
-use Rattle.arena.specs.Inside.{Stands, inPlace}
+use Rattle.arena.specs.Inside.Places.{Stands}
+use Rattle.arena.specs.Inside.Ways.{inPlace}
 use Rattle.arena.proofs.Standing.{reads}
 use Rattle.arena.proofs.Ordering.{ways-in-order, shut-way, open-way, shrink-shut}
 use borrow.Author.Needs.{needs}

@@ -6,7 +6,9 @@ use native.Mathlib.Omega.{arith}
 use lib.ListN.{length}
 use Rattle.layout.specs.Numbers.{headerWords, greatestLength}
 use Rattle.layout.specs.Chunks.{Chunk, live}
-use Rattle.arena.specs.Inside.{Stands, Took, Beside}
+use Rattle.arena.specs.Inside.Places.{Stands}
+use Rattle.arena.specs.Inside.Ways.{Took}
+use Rattle.arena.specs.Inside.Moves.{Beside}
 use Rattle.arena.proofs.Standing.{Reads, reads, found-nowhere}
 use Rattle.arena.proofs.Finding.{FoundGap, found-gap}
 use Rattle.arena.proofs.Allotting.{took-small}

@@ -7,7 +7,7 @@ use lib.ListN.{length, length-set}
 use Rattle.layout.specs.Numbers.{headerWords, leastSize, greatestLength}
 use Rattle.arena.specs.declared.grant.Way.the-variants.{Grants}
 use Rattle.layout.specs.Chunks.{Chunk, live, header}
-use Rattle.arena.specs.Inside.{Stands}
+use Rattle.arena.specs.Inside.Places.{Stands}
 use Rattle.arena.proofs.Standing.{Reads, reads}
 use Rattle.arena.proofs.Room.{bounds}
 use Rattle.arena.proofs.Staying.{follows-as, keeps, shrinks, too-short, grows-whole, grows-part}

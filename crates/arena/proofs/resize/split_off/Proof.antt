@@ -1,6 +1,6 @@
 -- `split_off` meets its contract: its three stores are those of `splitOff`.
 use borrow.Author.Needs.{needs}
-use Rattle.arena.specs.Inside.{splitOff}
+use Rattle.arena.specs.Inside.Rooms.{splitOff}
 use Rattle.arena.proofs.resize.split_off.Statement.{statement}
 use Rattle.arena.proofs.resize.split_off.Tie as tie
 

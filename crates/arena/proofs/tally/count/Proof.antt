@@ -9,7 +9,7 @@ use lib.ListN.{length, getD}
 use borrow.Author.Needs.{needs}
 use Rattle.layout.specs.Numbers.{listWord, leastSize, greatestLength}
 use Rattle.layout.specs.Chunks.{Chunk}
-use Rattle.arena.specs.Inside.{Below}
+use Rattle.arena.specs.Inside.Tallies.{Below}
 use Rattle.arena.proofs.Passing.{size-here, live-here, free-here}
 use Rattle.arena.proofs.Tallying.{Counting, below-more, count-begins, count-past-live, count-past-free, count-ends}
 use Rattle.arena.proofs.tally.count.Statement.{statement}

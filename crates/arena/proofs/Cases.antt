@@ -1,0 +1,132 @@
+-- What each call comes to, case by case: it is refused for a reason, and what the reason says is so, or it is done. `Regranting` has realloc.
+use mathlib.Core.Path.{_≡_, refl}
+use mathlib.Core.Bool.{Bool, true, false, cond}
+use mathlib.Core.List.{List, [], _∷_, _++_}
+use Prim.Native.Nat.{ℕ, _+_, _-_, _<_}
+use native.Mathlib.Omega.{arith}
+use lib.Dec.{leb, eqb}
+use lib.ListN.{length}
+use borrow.Author.Tests.{eqb-true, eqb-false, leb-true, leb-false}
+use Rattle.layout.specs.Numbers.{firstChunk, controlWords, headerWords, lawful, greatestRequest, need}
+use Rattle.layout.specs.Chunks.{Chunk, free, live, total, written}
+use Rattle.layout.specs.Walk.{sound, chunksOf}
+use Rattle.layout.specs.Reasons.{arenaGate, requestGate}
+use Rattle.layout.specs.declared.Gate.{Gate}
+use Rattle.layout.specs.declared.Gate.the-variants.{Open, Shut}
+use Rattle.layout.specs.declared.Reason.{Reason}
+use Rattle.layout.specs.declared.Reason.the-variants.{Length, Damaged, NotABlock, Zero, TooLarge, NoRoom}
+use Rattle.arena.specs.Answers.{Outcome, refusal, success, done, refused, settle, pass}
+use Rattle.arena.specs.Spots.{Spot, at, held}
+use Rattle.arena.specs.Rules.{taken, cut, joined, released, grantedAt, grantFrom, allotted, freeWords, widest, liveBlocks, freeChunks}
+use Rattle.arena.specs.Calls.{onBlock, granted, startOn, allocBy, allocOn, freeOn, sizeOn, reportOn}
+use Rattle.arena.proofs.Blocks.{BlockAt, GapAt, Held, no-block, a-block, held-told, Fitting, no-gap, a-gap, fitting-told}
+use Rattle.arena.proofs.Causes.{Request, StartRefused, ReportRefused, BlockRefused, AllocRefused}
+
+-- an outcome of a call on the words `a`: `Refuses` is what the reasons say, and `Does` what is known of the fields and the words if it is done
+pub data Case (fields : ℕ) (a : List ℕ) (Refuses : Reason → Type 0) (Does : List ℕ → List ℕ → Type 0) : Outcome → Type 0 where
+  refuses : (why : Reason) → Refuses why → Case fields a Refuses Does (record { answer = refusal fields why; words = a })
+  does : {values after : List ℕ} → Does values after → Case fields a Refuses Does (record { answer = success values; words = after })
+
+-- ---- the gates
+
+pub data Checked (a : List ℕ) : Gate → Type 0 where
+  unlawful : lawful (length a) ≡ false → Checked a (Shut Length)
+  damaged : lawful (length a) ≡ true → sound a ≡ false → Checked a (Shut Damaged)
+  whole : sound a ≡ true → Checked a Open
+
+pub checked : (a : List ℕ) → Checked a (arenaGate a)
+unfolding arenaGate
+checked a = go (lawful (length a)) (sound a) refl refl
+  where
+    go : (l s : Bool) → lawful (length a) ≡ l → sound a ≡ s → Checked a (cond l (cond s Open (Shut Damaged)) (Shut Length))
+    go false s e f = unlawful e
+    go true false e f = damaged e f
+    go true true e f = whole f
+
+pub data Asked (a : List ℕ) (n : ℕ) : Gate → Type 0 where
+  for-none : n ≡ 0 → Asked a n (Shut Zero)
+  for-more : greatestRequest (length a) < n → Asked a n (Shut TooLarge)
+  for-some : Request a n → Asked a n Open
+
+pub asked : (a : List ℕ) (n : ℕ) → Asked a n (requestGate (length a) n)
+unfolding requestGate
+asked a n = go (eqb n 0) (leb n (greatestRequest (length a))) refl refl
+  where
+    go : (z f : Bool) → eqb n 0 ≡ z → leb n (greatestRequest (length a)) ≡ f → Asked a n (cond z (Shut Zero) (cond f Open (Shut TooLarge)))
+    go true f e h = for-none (eqb-true n 0 e)
+    go false false e h = for-more (leb-false _ _ h)
+    go false true e h = for-some (omega (arith, eqb-false n 0 e), leb-true _ _ h)
+
+-- ---- the calls
+
+pub data Starts (a : List ℕ) : List ℕ → List ℕ → Type 0 where
+  starts : lawful (length a) ≡ true → Starts a [] (written (free (length a - controlWords) ∷ []) a)
+
+pub start-case : (a : List ℕ) → Case 0 a (StartRefused a) (Starts a) (startOn a)
+unfolding startOn
+start-case a = go (lawful (length a)) refl
+  where
+    go : (l : Bool) → lawful (length a) ≡ l
+        → Case 0 a (StartRefused a) (Starts a) (settle 0 a (cond l (done [] (written (free (length a - controlWords) ∷ []) a)) (refused Length)))
+    go true e = does (starts e)
+    go false e = refuses Length (refl, e)
+
+-- what alloc does: the need is taken from the lowest free chunk that fits
+pub data Allots (a : List ℕ) (n : ℕ) : List ℕ → List ℕ → Type 0 where
+  allots : sound a ≡ true → Request a n → (pre : List Chunk) (s : ℕ) (post : List Chunk) → GapAt a (need n) pre s post
+      → Allots a n ((firstChunk + total pre + (s - taken (need n) s) + headerWords) ∷ (taken (need n) s - headerWords) ∷ []) (written (pre ++ (cut (need n) s ++ post)) a)
+
+pub alloc-case : (a : List ℕ) (n : ℕ) → Case 2 a (AllocRefused a n) (Allots a n) (allocOn a n)
+unfolding allocBy
+alloc-case a n = go (checked a) (asked a n) (fitting-told a (need n))
+  where
+    go : {arena request : Gate} {gap : Spot} → Checked a arena → Asked a n request → Fitting a (need n) gap
+        → Case 2 a (AllocRefused a n) (Allots a n) (settle 2 a (pass arena (pass request (granted (allotted (grantFrom (need n) gap) a)))))
+    go (unlawful e) q g = refuses Length e
+    go (damaged e f) q g = refuses Damaged (e, f)
+    go (whole e) (for-none z) g = refuses Zero (e, z)
+    go (whole e) (for-more m) g = refuses TooLarge (e, m)
+    go (whole e) (for-some r) (no-gap h) = refuses NoRoom (e, (r, h))
+    go (whole e) (for-some r) (a-gap pre s post is) = does (allots e r pre s post is)
+
+-- a call on block `b`: where there is the block, its fields and the words follow from the spot
+block-case : (a : List ℕ) (b fields : ℕ) (Does : List ℕ → List ℕ → Type 0) (values after : Spot → List ℕ)
+    → (sound a ≡ true → (pre : List Chunk) (s : ℕ) (post : List Chunk) → BlockAt a b pre s post → Does (values (at pre (live s) post)) (after (at pre (live s) post)))
+    → Case fields a (BlockRefused a b) Does (settle fields a (pass (arenaGate a) (onBlock (held b (chunksOf a)) (done (values (held b (chunksOf a))) (after (held b (chunksOf a)))))))
+block-case a b fields Does values after f = go (checked a) (held-told a b)
+  where
+    go : {arena : Gate} {spot : Spot} → Checked a arena → Held a b spot
+        → Case fields a (BlockRefused a b) Does (settle fields a (pass arena (onBlock spot (done (values spot) (after spot)))))
+    go (unlawful e) h = refuses Length e
+    go (damaged e d) h = refuses Damaged (e, d)
+    go (whole e) (no-block h) = refuses NotABlock (e, h)
+    go (whole e) (a-block pre s post is) = does (f e pre s post is)
+
+pub data Frees (a : List ℕ) (b : ℕ) : List ℕ → List ℕ → Type 0 where
+  frees : sound a ≡ true → (pre : List Chunk) (s : ℕ) (post : List Chunk) → BlockAt a b pre s post → Frees a b [] (written (joined (pre ++ free s ∷ post)) a)
+
+pub free-case : (a : List ℕ) (b : ℕ) → Case 0 a (BlockRefused a b) (Frees a b) (freeOn a b)
+unfolding freeOn
+free-case a b = block-case a b 0 (Frees a b) (λ spot. []) (λ spot. written (released spot) a) frees
+
+pub data Measures (a : List ℕ) (b : ℕ) : List ℕ → List ℕ → Type 0 where
+  measures : sound a ≡ true → (pre : List Chunk) (s : ℕ) (post : List Chunk) → BlockAt a b pre s post → Measures a b ((s - headerWords) ∷ []) a
+
+pub size-case : (a : List ℕ) (b : ℕ) → Case 1 a (BlockRefused a b) (Measures a b) (sizeOn a b)
+unfolding sizeOn
+size-case a b = block-case a b 1 (Measures a b) (λ spot. grantedAt spot ∷ []) (λ spot. a) measures
+
+pub data Reports (a : List ℕ) : List ℕ → List ℕ → Type 0 where
+  reports : sound a ≡ true
+      → Reports a (freeWords (chunksOf a) ∷ (widest (chunksOf a) - headerWords) ∷ liveBlocks (chunksOf a) ∷ freeChunks (chunksOf a) ∷ []) a
+
+pub report-case : (a : List ℕ) → Case 4 a (ReportRefused a) (Reports a) (reportOn a)
+unfolding reportOn
+report-case a = go (checked a)
+  where
+    go : {arena : Gate} → Checked a arena
+        → Case 4 a (ReportRefused a) (Reports a)
+        (settle 4 a (pass arena (done (freeWords (chunksOf a) ∷ (widest (chunksOf a) - headerWords) ∷ liveBlocks (chunksOf a) ∷ freeChunks (chunksOf a) ∷ []) a)))
+    go (unlawful e) = refuses Length e
+    go (damaged e f) = refuses Damaged (e, f)
+    go (whole e) = does (reports e)

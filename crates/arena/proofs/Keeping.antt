@@ -1,0 +1,157 @@
+-- A call that changes the words keeps their number, and leaves a sound arena sound. That size and report change none, `Refusing` tells.
+use mathlib.Core.Path.{_≡_, refl, _∙_}
+use mathlib.Core.Bool.{Bool, true, false, cond}
+use mathlib.Core.List.{List, [], _∷_, _++_}
+use Prim.Native.Nat.{ℕ, _+_, _-_, _%_, _≤_, _<_}
+use native.Mathlib.Omega.{arith}
+use lib.ListN.{length}
+use borrow.Author.Tests.{leb-true}
+use Rattle.layout.specs.Numbers.{firstChunk, listWord, headerWords, leastSplit, need}
+use Rattle.layout.specs.Chunks.{Chunk, free, live, total, written}
+use Rattle.layout.specs.Walk.{sound, chunksOf}
+use Rattle.layout.specs.Links.{linkAt}
+use Rattle.layout.specs.declared.Reason.{Reason}
+use Rattle.layout.proofs.Holds.{Lawful, sizes-split, total-even}
+use Rattle.layout.proofs.Written.{length-written}
+use Rattle.layout.proofs.Round.{sound-chunks, written-sound}
+use Rattle.arena.specs.Answers.{Outcome}
+use Rattle.arena.specs.Spots.{at, held}
+use Rattle.arena.specs.Rules.{splits, taken, cut, trim, joined, released, copied}
+use Rattle.arena.specs.Calls.{startOn, allocOn, freeOn, reallocOn}
+use Rattle.arena.specs.Inside.Places.{Needed, Stands}
+use Rattle.arena.proofs.Gates.{sound-lawful, request-needed}
+use Rattle.arena.proofs.Taking.{cut-lawful}
+use Rattle.arena.proofs.Copying.{length-copied}
+use Rattle.arena.proofs.Merging.{joined-lawful}
+use Rattle.arena.proofs.Moving.{moved, moved-stands}
+use Rattle.arena.proofs.Starting.{whole-lawful}
+use Rattle.arena.proofs.Blocks.{BlockAt, GapAt}
+use Rattle.arena.proofs.Cases.{Case, refuses, does, Starts, starts, start-case, Allots, allots, alloc-case, Frees, frees, free-case}
+use Rattle.arena.proofs.Regranting.{Regrants, shrinks, grows, moves, realloc-case}
+
+-- the words `after` are an arena as the words `a` were
+record Kept (a after : List ℕ) : Type 0 where
+  same-length : length after ≡ length a
+  still-sound : sound a ≡ true → sound after ≡ true
+
+written-kept : (ks : List Chunk) (a : List ℕ) → Lawful (length a) ks → Kept a (written ks a)
+written-kept ks a l = record { same-length = length-written ks a; still-sound = λ e. written-sound ks a l .0 }
+
+unchanged : (a : List ℕ) → Kept a a
+unchanged a = record { same-length = refl; still-sound = λ e. e }
+
+-- a refused call keeps the words, so all depends on what is done
+kept : {fields : ℕ} {a : List ℕ} {Refuses : Reason → Type 0} {Does : List ℕ → List ℕ → Type 0} {outcome : Outcome}
+    → ((values after : List ℕ) → Does values after → Kept a after) → Case fields a Refuses Does outcome → Kept a (outcome .words)
+kept f (refuses why r) = unchanged _
+kept f (does {values} {after} d) = f values after d
+
+-- ---- the chunks that are written are lawful
+
+module _ (a : List ℕ) (e : sound a ≡ true) where
+  chunks-lawful : (ks : List Chunk) → chunksOf a ≡ ks → Lawful (length a) ks
+  chunks-lawful ks same = rw same at (sound-chunks a e .law)
+
+  freed-lawful : (pre : List Chunk) (s : ℕ) (post : List Chunk) → chunksOf a ≡ pre ++ live s ∷ post → Lawful (length a) (joined (pre ++ free s ∷ post))
+  freed-lawful pre s post same =
+      let l = chunks-lawful _ same in
+      let z = sizes-split pre (live s ∷ post) (l .sizes) .1 in
+      joined-lawful (length a) pre (live s ∷ []) (free s ∷ []) post l (z .0, z .1, tt) refl
+
+  -- a need of the words of some chunks, `old`, is kept
+  trimmed-lawful : (pre old post : List Chunk) (words need : ℕ) → chunksOf a ≡ pre ++ (old ++ post) → total old ≡ words → Needed need → need ≤ words
+      → Lawful (length a) (joined (pre ++ (trim need words ++ post)))
+  trimmed-lawful pre old post words need same t n enough = go (splits need words) refl
+    where
+      l : Lawful (length a) (pre ++ (old ++ post))
+      l = chunks-lawful _ same
+
+      even : words % 2 ≡ 0
+      even = rw (← t) (total-even old (sizes-split old post (sizes-split pre (old ++ post) (l .sizes) .1) .0))
+
+      go : (split : Bool) → splits need words ≡ split
+          → Lawful (length a) (joined (pre ++ (cond split (live need ∷ free (words - need) ∷ []) (live words ∷ []) ++ post)))
+      go true e =
+          let over : leastSplit ≤ words - need = leb-true _ _ e in
+          let w = even in
+          joined-lawful (length a) pre old (live need ∷ free (words - need) ∷ []) post l (n .even, n .least, (omega (arith, n .even), over, tt)) (omega arith)
+      go false e = joined-lawful (length a) pre old (live words ∷ []) post l (even, omega (arith, n .least), tt) (omega arith)
+
+freed-kept : {a : List ℕ} {pre : List Chunk} {s : ℕ} {post : List Chunk} {link chunk : ℕ} → Stands a pre (live s) post link chunk
+    → Kept a (written (released (at pre (live s) post)) a)
+freed-kept {a} {pre} {s} {post} st = written-kept _ a (freed-lawful a (st .is-sound) pre s post (st .same))
+
+-- a block moves: a need is granted, the words are copied, and the old block is freed
+moved-kept : (a : List ℕ) (need : ℕ) (pre : List Chunk) (s : ℕ) (post before : List Chunk) (g : ℕ) (after : List Chunk) (b block : ℕ) (ks : List Chunk) → sound a ≡ true
+    → Needed need → BlockAt a b pre s post → GapAt a need before g after → s < need
+    → block ≡ firstChunk + total before + (g - taken need g) + headerWords → ks ≡ before ++ (cut need g ++ after)
+    → Kept a (written (released (held b ks)) (copied b block (s - headerWords) (written ks a)))
+moved-kept a need pre s post before g after b block ks e n is gap longer at-is same =
+    let old : Stands a pre (live s) post (linkAt listWord firstChunk pre) (firstChunk + total pre) = record { is-sound = e; same = is .same; link-is = refl; at-is = refl } in
+    let new : Stands a before (free g) after (linkAt listWord firstChunk before) (firstChunk + total before) = record { is-sound = e; same = gap .same; link-is = refl; at-is = refl } in
+    let stands = moved-stands a pre s post _ _ old before g after _ _ new need n (gap .enough) longer in
+    let leaves = moved a pre s post _ _ old before g after _ _ new need n (gap .enough) longer (gap .lowest-is) .leaves in
+    let freed = freed-kept stands in
+    rw (same, at-is, ← is .number-is, ← (rw (gap .lowest-is) at leaves))
+    (record {
+      same-length = freed .same-length ∙ length-copied _ _ _ _ ∙ length-written _ a;
+      still-sound = λ _. freed .still-sound (stands .is-sound);
+    })
+
+-- ---- the calls
+
+module _ (a : List ℕ) where
+  start-kept : Kept a (startOn a .words)
+  start-kept = kept go (start-case a)
+    where
+      go : (values after : List ℕ) → Starts a values after → Kept a after
+      go values after (starts l) = written-kept _ a (whole-lawful a l)
+
+  alloc-kept : (n : ℕ) → Kept a (allocOn a n .words)
+  alloc-kept n = kept go (alloc-case a n)
+    where
+      go : (values after : List ℕ) → Allots a n values after → Kept a after
+      go values after (allots e r pre s post is) =
+          written-kept _ a (cut-lawful (length a) (need n) pre s post (chunks-lawful a e _ (is .same)) (request-needed (length a) n (sound-lawful a e) r) (is .enough))
+
+  free-kept : (b : ℕ) → Kept a (freeOn a b .words)
+  free-kept b = kept go (free-case a b)
+    where
+      go : (values after : List ℕ) → Frees a b values after → Kept a after
+      go values after (frees e pre s post is) = written-kept _ a (freed-lawful a e pre s post (is .same))
+
+  realloc-kept : (b n : ℕ) → Kept a (reallocOn a b n .words)
+  realloc-kept b n = kept go (realloc-case a b n)
+    where
+      go : (values after : List ℕ) → Regrants a b n values after → Kept a after
+      go values after (shrinks e r pre s post is l) =
+          written-kept _ a (trimmed-lawful a e pre (live s ∷ []) post s (need n) (is .same) (omega arith) (request-needed (length a) n (sound-lawful a e) r) l)
+      go values after (grows e r pre s t post is l m) =
+          written-kept _ a (trimmed-lawful a e pre (live s ∷ free t ∷ []) post (s + t) (need n) (is .same) (omega arith) (request-needed (length a) n (sound-lawful a e) r) m)
+      go values after (moves e r pre s post is l before g behind gap block at-is ks same) =
+          moved-kept a (need n) pre s post before g behind b block ks e (request-needed (length a) n (sound-lawful a e) r) is gap (l .own) at-is same
+
+  -- ---- the number of words
+
+  pub start-length : length (startOn a .words) ≡ length a
+  start-length = start-kept .same-length
+
+  pub alloc-length : (n : ℕ) → length (allocOn a n .words) ≡ length a
+  alloc-length n = alloc-kept n .same-length
+
+  pub free-length : (b : ℕ) → length (freeOn a b .words) ≡ length a
+  free-length b = free-kept b .same-length
+
+  pub realloc-length : (b n : ℕ) → length (reallocOn a b n .words) ≡ length a
+  realloc-length b n = realloc-kept b n .same-length
+
+  -- ---- soundness; that of start, `Starting` tells
+
+  pub alloc-sound : (n : ℕ) → sound a ≡ true → sound (allocOn a n .words) ≡ true
+  alloc-sound n = alloc-kept n .still-sound
+
+  pub free-sound : (b : ℕ) → sound a ≡ true → sound (freeOn a b .words) ≡ true
+  free-sound b = free-kept b .still-sound
+
+  pub realloc-sound : (b n : ℕ) → sound a ≡ true → sound (reallocOn a b n .words) ≡ true
+  realloc-sound b n = realloc-kept b n .still-sound

@@ -1,0 +1,80 @@
+-- The second number that report answers is the largest request that alloc would grant now.
+use mathlib.Core.Path.{_≡_, refl, sym, ap, _∙_}
+use mathlib.Core.Logic.{_≢_}
+use mathlib.Core.Bool.{true, true≢false}
+use mathlib.Core.List.{List, [], _∷_, _++_}
+use Prim.Native.Nat.{ℕ, _-_, _%_, _≤_, _<_}
+use native.Mathlib.Omega.{arith}
+use lib.ListN.{getD}
+use Rattle.layout.specs.Numbers.{headerWords, need}
+use Rattle.layout.specs.Chunks.{Chunk, free, live, total}
+use Rattle.layout.specs.Walk.{sound, chunksOf}
+use Rattle.layout.specs.declared.Reason.{Reason}
+use Rattle.layout.specs.declared.Reason.the-variants.{Length, Damaged, NotABlock, Zero, TooLarge, NoRoom, Frame}
+use Rattle.layout.proofs.Holds.{Sizes}
+use Rattle.layout.proofs.Round.{sound-chunks}
+use Rattle.layout.proofs.Reasons.{number-positive}
+use Rattle.arena.specs.Answers.{Outcome}
+use Rattle.arena.specs.Rules.{widest}
+use Rattle.arena.specs.Calls.{allocOn, reportOn}
+use Rattle.arena.proofs.Gates.{sound-lawful}
+use Rattle.arena.proofs.Causes.{AllocRefused}
+use Rattle.arena.proofs.Cases.{Case, refuses, does, Allots, allots, alloc-case}
+use Rattle.arena.proofs.Reasons.{sound-gate, alloc-done}
+
+-- ---- the size of the largest free chunk
+
+widest-within : (ks : List Chunk) → widest ks ≤ total ks
+widest-within [] = omega arith
+widest-within (free s ∷ ks) = omega (arith, widest-within ks)
+widest-within (live s ∷ ks) = omega (arith, widest-within ks)
+
+widest-even : (ks : List Chunk) → Sizes ks → widest ks % 2 ≡ 0
+widest-even [] z = refl
+widest-even (free s ∷ ks) z = omega (arith, z .0, widest-even ks (z .2))
+widest-even (live s ∷ ks) z = widest-even ks (z .2)
+
+widest-least : (pre : List Chunk) (s : ℕ) (post : List Chunk) → s ≤ widest (pre ++ free s ∷ post)
+widest-least [] s post = omega arith
+widest-least (free t ∷ pre) s post = omega (arith, widest-least pre s post)
+widest-least (live t ∷ pre) s post = widest-least pre s post
+
+-- where every free chunk has fewer words, so has the largest
+widest-below : (ks : List Chunk) (words : ℕ) → 1 ≤ words → ((pre : List Chunk) (s : ℕ) (post : List Chunk) → ks ≡ pre ++ free s ∷ post → s < words) → widest ks < words
+widest-below [] words one f = one
+widest-below (free s ∷ ks) words one f =
+    omega (arith, f [] s ks refl, widest-below ks words one (λ pre t post e. f (free s ∷ pre) t post (ap (_∷_ (free s)) e)))
+widest-below (live s ∷ ks) words one f = widest-below ks words one (λ pre t post e. f (live s ∷ pre) t post (ap (_∷_ (live s)) e))
+
+-- ---- the report
+
+-- the second number that report answers
+abbrev pub largest : List ℕ → ℕ
+largest a = getD (reportOn a .answer .values) 1 0
+
+module _ (a : List ℕ) (e : sound a ≡ true) where
+  pub largest-is : largest a ≡ widest (chunksOf a) - headerWords
+  unfolding reportOn
+  largest-is = rw (sound-gate a e)
+
+  pub largest-granted : (n : ℕ) → 1 ≤ n → n ≤ largest a → allocOn a n .answer .code ≡ 0
+  largest-granted n one small = alloc-done a n .1 none
+    where
+      none : (why : Reason) → AllocRefused a n why → ⊥
+      none Length l = true≢false (sym (sound-lawful a e) ∙ l)
+      none Damaged (l, s) = true≢false (sym e ∙ s)
+      none NotABlock (s, h) = h
+      none Zero (s, z) = omega arith
+      none TooLarge (s, m) = omega (arith, largest-is, widest-within (chunksOf a), sound-chunks a e .law .fills)
+      none NoRoom (s, (r, h)) =
+          omega (arith, largest-is, widest-even (chunksOf a) (sound-chunks a e .law .sizes), widest-below (chunksOf a) (need n) (omega arith) h)
+      none Frame h = h
+
+  pub above-largest : (n : ℕ) → largest a < n → allocOn a n .answer .code ≢ 0
+  above-largest n large code = go (alloc-case a n) code
+    where
+      go : {outcome : Outcome} → Case 2 a (AllocRefused a n) (Allots a n) outcome → outcome .answer .code ≢ 0
+      go (refuses why r) c = omega (arith, number-positive why)
+      go (does (allots s r pre t post is)) c =
+          let w : widest (chunksOf a) ≡ widest (pre ++ free t ∷ post) = ap widest (is .same) in
+          omega (arith, largest-is, widest-least pre t post, is .enough)
