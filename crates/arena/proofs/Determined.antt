@@ -7,7 +7,7 @@ use Rattle.layout.specs.Reasons.{number}
 use Rattle.layout.specs.declared.Reason.{Reason}
 use Rattle.layout.proofs.Reasons.{number-positive, number-injective}
 use Rattle.arena.specs.Answers.{Answer, finishNumbers, grantedNumbers, sizedNumbers, reportedNumbers, Outcome, Gives}
-use Rattle.arena.specs.Calls.{startOn, allocOn, freeOn, reallocOn, sizeOn, viewOn, reportOn}
+use Rattle.arena.specs.Calls.{startOn, allocOn, freeOn, reallocOn, sizeOn, Views, reportOn}
 use Rattle.arena.specs.declared.Finish.{Finish}
 use Rattle.arena.specs.declared.Finish.the-variants.{Done, Refused as NotDone}
 use Rattle.arena.specs.declared.Granted.{Granted}
@@ -79,6 +79,7 @@ size-determined a b = determined sizedNumbers sized-injective (sizeOn a b)
 pub report-determined : (a : List ℕ) → Determined reportedNumbers (reportOn a)
 report-determined a = determined reportedNumbers reported-injective (reportOn a)
 
--- a view answers words alone
-pub view-determined : (a : List ℕ) (b : ℕ) (part part′ : List ℕ) → part ≡ viewOn a b → part′ ≡ viewOn a b → part ≡ part′
-view-determined a b part part′ e e′ = e ∙ sym e′
+-- a view answers a part of the arena: its words, and where they lie
+pub view-determined : (a : List ℕ) (place : ℕ × ℕ) (b : ℕ) (part part′ : List ℕ) (lies lies′ : ℕ × ℕ)
+    → Views a place b part lies → Views a place b part′ lies′ → (part ≡ part′) × (lies ≡ lies′)
+view-determined a place b part part′ lies lies′ v v′ = (v .holds ∙ sym (v′ .holds), v .stands ∙ sym (v′ .stands))

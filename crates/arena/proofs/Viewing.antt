@@ -1,14 +1,16 @@
--- The part of an arena that is a block: its words, and that the arena has them.
+-- The part of an arena that is a block: its words, where they lie, and that the arena has them.
 use mathlib.Core.Path.{_≡_, refl, sym, ap, _∙_}
 use mathlib.Core.List.{List, [], _∷_}
 use Prim.Native.Nat.{ℕ, _+_, _-_, _≤_}
+use native.Mathlib.Nat.{zero-add}
 use native.Mathlib.Omega.{arith}
+use borrow.Author.Tests.{ne-eqb}
 use lib.ListN.{length, getD, take, drop}
 use Rattle.layout.specs.Numbers.{firstChunk, listWord, headerWords}
 use Rattle.layout.specs.Chunks.{live, size, total}
 use Rattle.layout.specs.Walk.{chunksOf}
 use Rattle.layout.specs.Links.{linkAt}
-use Rattle.layout.specs.Reasons.{arenaGate}
+use Rattle.layout.specs.Reasons.{number, arenaGate}
 use Rattle.layout.specs.declared.Gate.{Gate}
 use Rattle.layout.specs.declared.Gate.the-variants.{Open, Shut}
 use Rattle.layout.specs.declared.Reason.{Reason}
@@ -18,7 +20,7 @@ use Rattle.arena.specs.declared.Sized.the-variants.{Words, Refused as No
 use Rattle.arena.specs.Answers.{Answer, success, sizedNumbers, done, settle, pass}
 use Rattle.arena.specs.Spots.{Spot, nowhere, at, held}
 use Rattle.arena.specs.Rules.{grantedAt}
-use Rattle.arena.specs.Calls.{onBlock, sizeOn, viewOn}
+use Rattle.arena.specs.Calls.{onBlock, sizeOn, viewOn, viewFrom, wordAt, Views}
 use Rattle.arena.specs.Inside.Places.{placeOf}
 use Rattle.arena.proofs.Gates.{gate-open}
 use Rattle.arena.proofs.Standing.{reads}
@@ -26,17 +28,21 @@ use Rattle.arena.proofs.Finding.{found-block}
 
 -- `size` answers `sized` for block `b` of the arena `a`
 module _ (a : List ℕ) (b : ℕ) (sized : Sized) (answers : sizedNumbers sized ≡ sizeOn a b .answer) where
-  pub view-none : (why : Reason) → sized ≡ NotSized why → [] ≡ viewOn a b
-  unfolding viewOn
-  view-none why e = rw (← answers, e)
+  pub view-none : (place : ℕ × ℕ) (why : Reason) → sized ≡ NotSized why → Views a place b [] place
+  unfolding viewOn viewFrom
+  view-none place why e =
+      record {
+        holds = rw (← answers, e);
+        stands = rw (← answers, e, ne-eqb (number why) 0 (omega (arith, number-positive why))) (ap (λ (byte : ℕ). (place .0, byte)) (sym (zero-add (place .1))));
+      }
 
   -- the code's part of the arena: `words` words from word `from` on
   module _ (granted from words : ℕ) (e : sized ≡ Words granted) (from-is : from ≡ b) (words-are : words ≡ granted) where
-    pub view-words : take (from + words - from) (drop from a) ≡ viewOn a b
-    unfolding viewOn
-    view-words =
+    pub view-words : (place : ℕ × ℕ) → Views a place b (take (from + words - from) (drop from a)) (wordAt place from)
+    unfolding viewOn viewFrom
+    view-words place =
         let n : from + words - from ≡ granted = omega arith in
-        rw (← answers, e, n, from-is)
+        record { holds = rw (← answers, e, n, from-is); stands = rw (← answers, e, from-is) }
 
     pub view-within : from + words ≤ length a
     unfolding sizeOn placeOf

@@ -1,8 +1,10 @@
 -- The seven calls on an arena's words `a`: what each answers, and what each leaves. Reasons are looked for in the order of their numbers.
-use Prim.Native.Nat.{ℕ, _-_}
+use Prim.Native.Nat.{ℕ, _+_, _-_, _*_}
+use mathlib.Core.Path.{_≡_}
 use mathlib.Core.List.{List, [], _∷_}
 use mathlib.Core.Bool.{cond}
 use lib.ListN.{length, getD, take, drop}
+use lib.Dec.{eqb}
 use Rattle.layout.specs.Numbers.{controlWords, headerWords, lawful, need}
 use Rattle.layout.specs.Chunks.{free, written}
 use Rattle.layout.specs.Walk.{chunksOf}
@@ -60,6 +62,19 @@ sizeOn a b =
 -- the part of the arena that is the block: as many words from `b` on as size answers, none where size is refused
 unfoldable pub viewOn : List ℕ → ℕ → List ℕ
 viewOn a b = take (getD (sizeOn a b .answer .values) 0 0) (drop b a)
+
+-- the word at which that part begins: `b`, or 0 where there are no words to hand back
+unfoldable pub viewFrom : List ℕ → ℕ → ℕ
+viewFrom a b = cond (eqb (sizeOn a b .answer .code) 0) b 0
+
+-- where word `i` lies of words that lie at `place`, which is an object of memory and a byte of it: a word is four bytes
+abbrev pub wordAt : ℕ × ℕ → ℕ → ℕ × ℕ
+wordAt place i = (place .0, i * 4 + place .1)
+
+-- the promise of a view of the words `a`, which lie at `place`: the part that is handed back holds the block's words, and lies where the block does
+pub record Views (a : List ℕ) (place : ℕ × ℕ) (b : ℕ) (part : List ℕ) (lies : ℕ × ℕ) : Type 0 where
+  pub holds : part ≡ viewOn a b
+  pub stands : lies ≡ wordAt place (viewFrom a b)
 
 unfoldable pub reportOn : List ℕ → Outcome
 reportOn a =

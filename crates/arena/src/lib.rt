@@ -12,8 +12,9 @@ use layout::Reason;
 use layout::wide;
 use places::Place;
 ghost use mathlib.Core.Path.{_≡_};
+ghost use denote.Ref.{ptr};
 ghost use Rattle.arena.specs.Answers.{Gives, finishNumbers, grantedNumbers, sizedNumbers, reportedNumbers};
-ghost use Rattle.arena.specs.Calls.{startOn, allocOn, freeOn, reallocOn, sizeOn, viewOn, reportOn};
+ghost use Rattle.arena.specs.Calls.{startOn, allocOn, freeOn, reallocOn, sizeOn, Views, reportOn};
 ghost use Rattle.arena.specs.Inside.Ways.{grantedOf};
 
 // What start and free answer.
@@ -127,7 +128,7 @@ pub fn size(a: &[u32], b: u32) -> Sized
 
 // The part of the arena that is block `b`, to read; no words where there is no such block.
 pub fn view(a: &[u32], b: u32) -> &[u32]
-    ensures { λ r. ⌜ now r ≡ viewOn (now (a .entry)) b ⌝ }
+    ensures { λ r. ⌜ Views (now (a .entry)) (ptr (a .entry)) b (now r) (ptr r) ⌝ }
 {
     let sized = size(a, b);
     let Sized::Words(granted) = sized else {
@@ -140,7 +141,7 @@ pub fn view(a: &[u32], b: u32) -> &[u32]
 
 // The part of the arena that is block `b`, to read and to store into; no words where there is no such block.
 pub fn view_mut(a: &mut [u32], b: u32) -> &mut [u32]
-    ensures { λ r. ⌜ now r ≡ viewOn (now (a .entry)) b ⌝ }
+    ensures { λ r. ⌜ Views (now (a .entry)) (ptr (a .entry)) b (now r) (ptr r) ⌝ }
 {
     let sized = size(a, b);
     let Sized::Words(granted) = sized else {

@@ -20,7 +20,7 @@ slice-aggregate-result c = search needs
 returns : tie.Need-returns
 returns c =
     let d = c .before in
-    view-none _ _ _ (d .before .before .size .ensures .answers) _ (d .enum-told .given .1)
+    view-none _ _ _ (d .before .before .size .ensures .answers) _ _ (d .enum-told .given .1)
 
 wide-requires : tie.Need-wide-requires
 wide-requires c κs = search needs
@@ -49,7 +49,7 @@ returns-2 : tie.Need-returns-2
 returns-2 c =
     let w = c .before in
     let d = w .before .before .before in
-    view-words _ _ _ (d .before .before .size .ensures .answers) _ _ _ (d .sized .given .1) (w .before .wide .ensures) (w .wide2 .ensures)
+    view-words _ _ _ (d .before .before .size .ensures .answers) _ _ _ (d .sized .given .1) (w .before .wide .ensures) (w .wide2 .ensures) _
 
 pub view-spec : {M : Type 1} → statement M
 view-spec =
