@@ -2,9 +2,9 @@
 mod grant;
 mod places;
 mod release;
-mod resize;
 mod stores;
 mod tally;
+mod ways;
 
 use grant::Way;
 use layout::Gate;
@@ -107,7 +107,7 @@ pub fn realloc(a: &mut [u32], b: u32, n: u32) -> Granted
     if let Gate::Shut(why) = request {
         return Granted::Refused(why);
     }
-    let way = resize::realloc_at(a, link, chunk, layout::need(wide(n)));
+    let way = ways::realloc_at(a, link, chunk, layout::need(wide(n)));
     answer(way)
 }
 

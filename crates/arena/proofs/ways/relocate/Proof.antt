@@ -14,8 +14,8 @@ use Rattle.arena.proofs.Finding.{FoundGap, found-gap}
 use Rattle.arena.proofs.Allotting.{took-small}
 use Rattle.arena.proofs.Moving.{beyond, took-beside, took-stands, took-moved}
 use borrow.Author.Needs.{needs}
-use Rattle.arena.proofs.resize.relocate.Statement.{statement}
-use Rattle.arena.proofs.resize.relocate.Tie as tie
+use Rattle.arena.proofs.ways.relocate.Statement.{statement}
+use Rattle.arena.proofs.ways.relocate.Tie as tie
 
 -- the block that stands there, in numbers
 stood : (c : tie.Start) → let p = c .pre .0 in Reads (c .args .a .now) (p .pre) (live (p .s)) (p .post) (c .args .link) (c .args .chunk)

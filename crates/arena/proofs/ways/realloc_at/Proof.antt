@@ -12,8 +12,8 @@ use Rattle.arena.specs.Inside.Ways.{inPlace}
 use Rattle.arena.proofs.Standing.{reads}
 use Rattle.arena.proofs.Ordering.{ways-in-order, shut-way, open-way, shrink-shut}
 use borrow.Author.Needs.{needs}
-use Rattle.arena.proofs.resize.realloc_at.Statement.{statement}
-use Rattle.arena.proofs.resize.realloc_at.Tie as tie
+use Rattle.arena.proofs.ways.realloc_at.Statement.{statement}
+use Rattle.arena.proofs.ways.realloc_at.Tie as tie
 
 -- ways 1 and 2 were shut, and changed nothing
 stopped : (c : tie.After-enum-told) → let d = c .before .before .before .before in let x = d .before .before .before .args in

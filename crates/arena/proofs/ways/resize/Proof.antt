@@ -12,8 +12,8 @@ use Rattle.arena.proofs.Standing.{Reads, reads}
 use Rattle.arena.proofs.Room.{bounds}
 use Rattle.arena.proofs.Staying.{follows-as, keeps, shrinks, too-short, grows-whole, grows-part}
 use borrow.Author.Needs.{needs}
-use Rattle.arena.proofs.resize.resize.Statement.{statement}
-use Rattle.arena.proofs.resize.resize.Tie as tie
+use Rattle.arena.proofs.ways.resize.Statement.{statement}
+use Rattle.arena.proofs.ways.resize.Tie as tie
 
 -- the chunk that stands there, in numbers
 stood : (c : tie.Start) → let p = c .pre .0 in Reads (c .args .a .now) (p .pre) (live (p .s)) (p .post) (c .args .link) (c .args .chunk)

@@ -2,8 +2,8 @@
 use borrow.Author.Needs.{needs}
 use borrow.Author.Tests.{eq-eqb, ne-eqb}
 use Rattle.arena.specs.Inside.Moves.{linkAfter}
-use Rattle.arena.proofs.resize.link_after.Statement.{statement}
-use Rattle.arena.proofs.resize.link_after.Tie as tie
+use Rattle.arena.proofs.ways.link_after.Statement.{statement}
+use Rattle.arena.proofs.ways.link_after.Tie as tie
 
 returns : tie.Need-returns
 unfolding linkAfter

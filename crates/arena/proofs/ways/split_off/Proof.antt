@@ -1,8 +1,8 @@
 -- `split_off` meets its contract: its three stores are those of `splitOff`.
 use borrow.Author.Needs.{needs}
 use Rattle.arena.specs.Inside.Rooms.{splitOff}
-use Rattle.arena.proofs.resize.split_off.Statement.{statement}
-use Rattle.arena.proofs.resize.split_off.Tie as tie
+use Rattle.arena.proofs.ways.split_off.Statement.{statement}
+use Rattle.arena.proofs.ways.split_off.Tie as tie
 
 add-rest : tie.Need-add-rest
 add-rest c = search needs
