@@ -22,7 +22,7 @@ use Rattle.arena.specs.declared.release.Room.{Room}
 use Rattle.arena.proofs.Standing.{reads}
 use Rattle.arena.proofs.Joining.{joined-spaced, spaced-after}
 use Rattle.arena.proofs.Merging.{joined-from}
-use Rattle.arena.proofs.Room.{room-spaced, bounds, become}
+use Rattle.arena.proofs.Room.{room-joins, room-words, room-spaced, bounds, become}
 
 -- what follows a way still does, said otherwise
 pub follows-as : {way : RuleWay} {a : List ℕ} {answer answer′ : Way} {after after′ : List ℕ} → answer′ ≡ answer → after′ ≡ after → Follows way a answer after → Follows way a answer′ after′
@@ -30,9 +30,8 @@ follows-as e q f = record { answers = e ∙ f .answers; leaves = q ∙ f .leaves
 
 -- words over go to the free chunk right after, or are one themselves
 pub join-room : (x s need : ℕ) (post : List Chunk) → x ≡ s - need → need ≤ s → join (free x) post ≡ free (roomWords s post - need) ∷ roomAfter post
-join-room x s need [] e l = ap (λ (w : ℕ). free w ∷ []) (omega arith)
-join-room x s need (free t ∷ ks) e l = ap (λ (w : ℕ). free w ∷ ks) (omega arith)
-join-room x s need (live t ∷ ks) e l = ap (λ (w : ℕ). free w ∷ live t ∷ ks) (omega arith)
+join-room x s need post e l =
+    room-joins x post ∙ ap (λ (w : ℕ). free w ∷ roomAfter post) (omega (arith, room-words x post, room-words s post))
 
 -- way 2 in terms of the room
 grow-shut : (b need : ℕ) (pre : List Chunk) (s : ℕ) (post : List Chunk) (a : List ℕ) → s < need → roomWords s post < need → grow b need (at pre (live s) post) a ≡ shut

@@ -24,6 +24,7 @@ abbrev pub granted : Way → Result
 granted shut = refused NoRoom
 granted (grants block words after) = done (block ∷ words ∷ []) after
 
+-- one free chunk behind the control words; soundness is not asked
 unfoldable pub startOn : List ℕ → Outcome
 startOn a = settle 0 a (cond (lawful (length a)) (done [] (written (free (length a - controlWords) ∷ []) a)) (refused Length))
 
@@ -38,11 +39,13 @@ allocBy policy a n =
 abbrev pub allocOn : List ℕ → ℕ → Outcome
 allocOn a n = allocBy firstFit a n
 
+-- the block's chunk becomes free, and free neighbours are merged
 unfoldable pub freeOn : List ℕ → ℕ → Outcome
 freeOn a b =
     let spot = held b (chunksOf a) in
     settle 0 a (pass (arenaGate a) (onBlock spot (done [] (written (released spot) a))))
 
+-- the first of the three ways that is open
 unfoldable pub reallocOn : List ℕ → ℕ → ℕ → Outcome
 reallocOn a b n =
     let spot = held b (chunksOf a) in
@@ -54,6 +57,7 @@ reallocOn a b n =
     (orElse (shrink b (need n) spot a)
     (orElse (grow b (need n) spot a) (move b (grantedAt spot) (grantFrom (need n) (firstFit (need n) (chunksOf a))) a)))))))
 
+-- the granted words of a block
 unfoldable pub sizeOn : List ℕ → ℕ → Outcome
 sizeOn a b =
     let spot = held b (chunksOf a) in
@@ -76,6 +80,7 @@ pub record Views (a : List ℕ) (place : ℕ × ℕ) (b : ℕ) (part : List ℕ)
   pub holds : part ≡ viewOn a b
   pub stands : lies ≡ wordAt place (viewFrom a b)
 
+-- free words, the largest request that would be granted now, live blocks, free chunks
 unfoldable pub reportOn : List ℕ → Outcome
 reportOn a =
     let ks = chunksOf a in

@@ -61,13 +61,6 @@ sizes-split [] ls z = (tt, z)
 sizes-split (k ∷ ks) ls z = let r = sizes-split ks ls (z .2) in ((z .0, z .1, r .0), r .1)
 
 module _ (a : List ℕ) where
-  pub holds-append : (c : ℕ) (ks ls : List Chunk) (after d : ℕ) → d ≡ c + total ks
-      → Holds a c ks (firstFree d ls after) → Holds a d ls after → Holds a c (ks ++ ls) after
-  holds-append c [] ls after d e h g = subst (λ (n : ℕ). Holds a n ls after) (omega arith) g
-  holds-append c (k ∷ ks) ls after d e h g =
-      let e′ : d ≡ c + size k + total ks = omega arith in
-      (h .0, h .1 ∙ ap (second k) (sym (firstFree-append (c + size k) ks ls after d e′)), holds-append (c + size k) ks ls after d e′ (h .2) g)
-
   pub holds-split : (c : ℕ) (ks ls : List Chunk) (after d : ℕ) → d ≡ c + total ks
       → Holds a c (ks ++ ls) after → Holds a c ks (firstFree d ls after) × Holds a d ls after
   holds-split c [] ls after d e h = (tt, subst (λ (n : ℕ). Holds a n ls after) (omega arith) h)
