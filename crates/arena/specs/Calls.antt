@@ -12,7 +12,7 @@ use Rattle.layout.specs.Reasons.{arenaGate, requestGate}
 use Rattle.layout.specs.declared.Reason.the-variants.{Length, NotABlock, NoRoom}
 use Rattle.arena.specs.Answers.{Outcome, Result, refused, done, settle, pass}
 use Rattle.arena.specs.Spots.{Spot, nowhere, at, Policy, firstFit, held}
-use Rattle.arena.specs.Rules.{Way, shut, grants, orElse, grantFrom, grantedAt, allotted, shrink, grow, move, released, freeWords, widest, liveBlocks, freeChunks}
+use Rattle.arena.specs.Rules.{Way, shut, grants, grantFrom, grantedAt, allotted, regranted, released, freeWords, widest, liveBlocks, freeChunks}
 
 -- a call on a block is refused where there is none
 abbrev pub onBlock : Spot → Result → Result
@@ -53,9 +53,7 @@ reallocOn a b n =
     (pass (arenaGate a)
     (onBlock spot
     (pass (requestGate (length a) n)
-    (granted
-    (orElse (shrink b (need n) spot a)
-    (orElse (grow b (need n) spot a) (move b (grantedAt spot) (grantFrom (need n) (firstFit (need n) (chunksOf a))) a)))))))
+    (granted (regranted b (need n) spot (grantFrom (need n) (firstFit (need n) (chunksOf a))) a)))))
 
 -- the granted words of a block
 unfoldable pub sizeOn : List ℕ → ℕ → Outcome
@@ -71,7 +69,7 @@ viewOn a b = take (getD (sizeOn a b .answer .values) 0 0) (drop b a)
 unfoldable pub viewFrom : List ℕ → ℕ → ℕ
 viewFrom a b = cond (eqb (sizeOn a b .answer .code) 0) b 0
 
--- where word `i` lies of words that lie at `place`, which is an object of memory and a byte of it: a word is four bytes
+-- the place of word `i`, where `place` is that of word 0. A place is an object of memory and a byte in it; a word has four bytes
 abbrev pub wordAt : ℕ × ℕ → ℕ → ℕ × ℕ
 wordAt place i = (place .0, i * 4 + place .1)
 

@@ -8,7 +8,7 @@ use Rattle.layout.specs.Numbers.{firstChunk, headerWords, leastSplit}
 use Rattle.layout.specs.Chunks.{Chunk, free, live, size, total, written}
 use Rattle.arena.specs.Spots.{Spot, nowhere, at, held}
 
--- enough of `s` words are over, behind a need, to be split off
+-- of `s` words, enough are left over after a need to be split off
 abbrev pub splits : ℕ → ℕ → Bool
 splits need s = leb leastSplit (s - need)
 
@@ -78,7 +78,7 @@ allotted (grant block granted ks) a = grants block granted (written ks a)
 
 -- ---- realloc of block `b`
 
--- the block stays where it is and keeps its need of `s` words, if they are as many
+-- if `s` words are enough, the block stays where it is and keeps its need of them
 abbrev pub stay : ℕ → ℕ → List Chunk → ℕ → List Chunk → List ℕ → Way
 stay b need pre s post a =
     cond (leb need s) (grants b (taken need s - headerWords) (written (joined (pre ++ (trim need s ++ post))) a)) shut
@@ -105,6 +105,10 @@ abbrev pub move : ℕ → ℕ → Grant → List ℕ → Way
 move b count none a = shut
 move b count (grant block granted ks) a =
     grants block granted (written (released (held b ks)) (copied b block count (written ks a)))
+
+-- the three ways in their order, where `new` is what a new block would be
+abbrev pub regranted : ℕ → ℕ → Spot → Grant → List ℕ → Way
+regranted b need spot new a = orElse (shrink b need spot a) (orElse (grow b need spot a) (move b (grantedAt spot) new a))
 
 -- ---- report
 

@@ -11,6 +11,7 @@ pub data Spot : Type 0 where
   nowhere : Spot
   at : List Chunk → Chunk → List Chunk → Spot
 
+-- the same spot with one chunk more before it
 abbrev pub behind : Chunk → Spot → Spot
 behind k nowhere = nowhere
 behind k (at pre l post) = at (k ∷ pre) l post

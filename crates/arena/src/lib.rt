@@ -1,4 +1,4 @@
-// An allocator over one lent arena of 32-bit words. A call has no demands on its caller: it is done as the rules say, or it is refused with a reason and changes nothing.
+// An allocator over one lent arena of 32-bit words. A call asks nothing of its caller: it is done as the rules say, or it is refused with a reason and changes nothing.
 mod grant;
 mod places;
 mod release;
@@ -103,8 +103,8 @@ pub fn realloc(a: &mut [u32], b: u32, n: u32) -> Granted
     let Place::At(link, chunk) = place else {
         return Granted::Refused(Reason::NotABlock);
     };
-    let request = layout::check_request(a.len(), wide(n));
-    if let Gate::Shut(why) = request {
+    let asked = layout::check_request(a.len(), wide(n));
+    if let Gate::Shut(why) = asked {
         return Granted::Refused(why);
     }
     let way = ways::realloc_at(a, link, chunk, layout::need(wide(n)));

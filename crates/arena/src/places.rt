@@ -6,7 +6,7 @@ ghost use Rattle.layout.specs.Walk.{sound, chunksOf};
 ghost use Rattle.arena.specs.Spots.{held, firstFit};
 ghost use Rattle.arena.specs.Inside.Places.{placeOf};
 
-// A chunk that a search found: the word that names the first free chunk after those below it, and its start.
+// A chunk that a search found: its link word (the list's first word, or the second word of the last free chunk below it), and its start.
 pub(crate) enum Place {
     At(usize, usize),
     Nowhere,

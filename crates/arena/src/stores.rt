@@ -36,7 +36,7 @@ pub(crate) fn put_live(a: &mut [u32], i: usize, words: usize)
     put(a, i, words, wide(layout::LIVE_MARK));
 }
 
-// Copies `count` words from word `from` on to the words from `to` on, which are others.
+// Copies `count` words from word `from` on to the words from `to` on. The two runs of words do not overlap.
 pub(crate) fn copy(a: &mut [u32], from: usize, to: usize, count: usize)
     requires { ⌜ Beside (length (now a)) from to count ⌝ }
     ensures { λ _. ⌜ now (a .exit) ≡ copied from to count (now (a .entry)) ⌝ }

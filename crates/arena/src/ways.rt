@@ -58,7 +58,7 @@ fn resize(a: &mut [u32], link: usize, chunk: usize, need: usize) -> Way
     grant::grants(Piece { chunk, words: need })
 }
 
-// The word that names the first free chunk after a block, once the chunk `new` was made of the free chunk at `gap`: where that was taken whole, its second word names nothing any more, and the word that named it does.
+// The word that names the first free chunk after a block, once the chunk `new` was made of the free chunk at `gap`: where that was taken whole, its second word is a link no more, and the word that named it now names the next free chunk.
 fn link_after(link: usize, gap_link: usize, gap: usize, new: usize) -> usize
     requires { ⌜ gap ≤ greatestLength ⌝ }
     ensures { λ r. ⌜ r ≡ linkAfter link «gap_link» gap new ⌝ }

@@ -7,16 +7,16 @@ use native.Mathlib.Omega.{arith}
 use lib.ListN.{length, getD}
 use lib.Dec.{leb, eqb}
 use borrow.Author.Tests.{leb-true, eq-eqb, ne-eqb}
-use Rattle.layout.specs.Numbers.{liveMark}
+use Rattle.layout.specs.Numbers.{liveMark, leastSize}
 use Rattle.layout.specs.Chunks.{Chunk, free, live, size}
 use Rattle.layout.specs.Walk.{Met, end, chunk, nothing, Walked, broken, whole, withChunk, isWhole, sizeFits, meet, walk, walkFrom}
 use Rattle.layout.specs.Links.{sizeAt}
 use Rattle.layout.proofs.Bools.{both}
 
 -- a size that fits
-pub fits-bounds : (n c x : ℕ) → sizeFits n c x ≡ true → (4 ≤ x) × (x ≤ n - c)
+pub fits-bounds : (n c x : ℕ) → sizeFits n c x ≡ true → (leastSize ≤ x) × (x ≤ n - c)
 fits-bounds n c x e =
-    let r = both (leb 4 x) (leb x (n - c)) (both (eqb (x % 2) 0) (leb 4 x && leb x (n - c)) e .1) in (leb-true 4 x (r .0), leb-true x (n - c) (r .1))
+    let r = both (leb leastSize x) (leb x (n - c)) (both (eqb (x % 2) 0) (leb leastSize x && leb x (n - c)) e .1) in (leb-true leastSize x (r .0), leb-true x (n - c) (r .1))
 
 -- a chunk that the walk meets has at least 4 words, and ends within the arena
 met-parts : (b₁ b₂ b₃ b₄ b₅ j : Bool) (s v w w′ : ℕ) (j′ : Bool) (k : Chunk) → cond b₁ (cond b₂ end nothing) (cond b₃ (cond b₄ (chunk (live s) w false) (cond j nothing (cond b₅ (chunk (free s) v true) nothing))) nothing) ≡ chunk k w′ j′ → (b₃ ≡ true) × (size k ≡ s)
@@ -28,7 +28,7 @@ met-parts false b₂ true false b₅ true s v w w′ j′ k e = (cc, cc)
 met-parts false b₂ true false true false s v w w′ j′ k e = (refl, cc)
 met-parts false b₂ true false false false s v w w′ j′ k e = (cc, cc)
 
-met-bounds : (a : List ℕ) (c w : ℕ) (j : Bool) (k : Chunk) (w′ : ℕ) (j′ : Bool) → meet a c w j ≡ chunk k w′ j′ → (4 ≤ size k) × (size k ≤ length a - c)
+met-bounds : (a : List ℕ) (c w : ℕ) (j : Bool) (k : Chunk) (w′ : ℕ) (j′ : Bool) → meet a c w j ≡ chunk k w′ j′ → (leastSize ≤ size k) × (size k ≤ length a - c)
 unfolding meet
 met-bounds a c w j k w′ j′ e =
     let p = met-parts (eqb c (length a)) (eqb w 0) (sizeFits (length a) c (getD a c 0)) (eqb (getD a (c + 1) 0) liveMark) (eqb w c) j (getD a c 0) (getD a (c + 1) 0) w w′ j′ k e in
@@ -79,7 +79,7 @@ pub from-chunk : (a : List ℕ) (c w : ℕ) (j : Bool) (k : Chunk) (w′ : ℕ) 
 unfolding walk walkFrom
 from-chunk a c w j k w′ j′ e = go (length a - c) refl
   where
-    b : (4 ≤ size k) × (size k ≤ length a - c)
+    b : (leastSize ≤ size k) × (size k ≤ length a - c)
     b = met-bounds a c w j k w′ j′ e
 
     go : (f : ℕ) → length a - c ≡ f → walk f a c w j ≡ withChunk k (walk (length a - (c + size k)) a (c + size k) w′ j′)
@@ -119,7 +119,7 @@ no-size a c w j h e =
     rw (from-nothing a c w j (simp (ne-eqb _ _ h, no-fit (length a) c (getD a c 0) e)))
 
 module _ (a : List ℕ) (c s w : ℕ) (e : s ≡ sizeAt a c) (h : s ≡ 0 → ⊥) where
-  pub size-bounds : (4 ≤ s) × (s ≤ length a - c)
+  pub size-bounds : (leastSize ≤ s) × (s ≤ length a - c)
   unfolding sizeAt
   size-bounds =
       let p = a-fit (length a) c (getD a c 0) s e h in

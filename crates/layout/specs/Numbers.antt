@@ -13,7 +13,7 @@ listWord = 1
 
 -- where the first chunk starts
 abbrev pub firstChunk : ℕ
-firstChunk = 2
+firstChunk = controlWords
 
 -- a chunk's size and its second word; the block begins behind them
 abbrev pub headerWords : ℕ
@@ -30,7 +30,7 @@ leastLength = 6
 abbrev pub greatestLength : ℕ
 greatestLength = 16384
 
--- as many words over, or more, are split off as a chunk of their own
+-- if this many words or more are left over, they are split off as a chunk of their own
 abbrev pub leastSplit : ℕ
 leastSplit = 4
 

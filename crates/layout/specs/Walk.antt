@@ -34,25 +34,25 @@ chunksIn (whole ks) = ks
 abbrev pub sizeFits : ℕ → ℕ → ℕ → Bool
 sizeFits n c s = eqb (s % 2) 0 && (leb leastSize s && leb s (n - c))
 
--- what stands at word `c`, where the links so far want the next free chunk at `want`, and `joined` says that a free chunk ends at `c`
+-- what stands at word `c`; `want` is where the last link says that the next free chunk starts (0: there is none), `afterFree` whether a free chunk ends at `c`
 unfoldable pub meet : List ℕ → ℕ → ℕ → Bool → Met
-meet a c want joined =
+meet a c want afterFree =
     cond (eqb c (length a)) (cond (eqb want 0) end nothing)
     (cond (sizeFits (length a) c (getD a c 0))
     (cond (eqb (getD a (c + 1) 0) liveMark) (chunk (live (getD a c 0)) want false)
-    (cond joined nothing (cond (eqb want c) (chunk (free (getD a c 0)) (getD a (c + 1) 0) true) nothing)))
+    (cond afterFree nothing (cond (eqb want c) (chunk (free (getD a c 0)) (getD a (c + 1) 0) true) nothing)))
     nothing)
 
 -- the chunks from word `c` on, of which at most `fuel` are passed
 unfoldable pub walk : ℕ → List ℕ → ℕ → ℕ → Bool → Walked
-walk zero a c want joined =
-    elim (meet a c want joined) [ end ↦ whole [] | chunk k w j ↦ broken | nothing ↦ broken ]
-walk (suc fuel) a c want joined =
-    elim (meet a c want joined) [ end ↦ whole [] | chunk k w j ↦ withChunk k (walk fuel a (c + size k) w j) | nothing ↦ broken ]
+walk zero a c want afterFree =
+    elim (meet a c want afterFree) [ end ↦ whole [] | chunk k w j ↦ broken | nothing ↦ broken ]
+walk (suc fuel) a c want afterFree =
+    elim (meet a c want afterFree) [ end ↦ whole [] | chunk k w j ↦ withChunk k (walk fuel a (c + size k) w j) | nothing ↦ broken ]
 
--- the chunks from word `c` on: as many as the words left are always enough
+-- the chunks from word `c` on: fuel for as many chunks as there are words left is always enough
 unfoldable pub walkFrom : List ℕ → ℕ → ℕ → Bool → Walked
-walkFrom a c want joined = walk (length a - c) a c want joined
+walkFrom a c want afterFree = walk (length a - c) a c want afterFree
 
 unfoldable pub walked : List ℕ → Walked
 walked a = walkFrom a firstChunk (getD a listWord 0) false

@@ -14,7 +14,7 @@ pub const CONTROL_WORDS: usize = 2;
 // The word that names the first free chunk.
 pub const LIST_WORD: usize = 1;
 // Where the first chunk starts.
-pub const FIRST_CHUNK: usize = 2;
+pub const FIRST_CHUNK: usize = CONTROL_WORDS;
 // A chunk's size and its second word.
 pub const HEADER_WORDS: usize = 2;
 // The least size of a chunk.
@@ -23,7 +23,7 @@ pub const LEAST_SIZE: usize = 4;
 pub const LEAST_LENGTH: usize = 6;
 
 pub const GREATEST_LENGTH: usize = 16384;
-// As many words over, or more, are split off as a chunk of their own.
+// If this many words or more are left over, they are split off as a chunk of their own.
 pub const LEAST_SPLIT: usize = 4;
 // The second word of a live chunk.
 pub const LIVE_MARK: u32 = 4294967295;
@@ -90,7 +90,7 @@ fn size_at(a: &[u32], c: usize) -> usize
     }
 }
 
-// The check walk from word `c`, where a live chunk or the control words end: `want` is where the links want the next free chunk.
+// The check walk from word `c`, where a live chunk or the control words end; `want` is where the last link says that the next free chunk starts (0: there is none).
 fn after_live(a: &[u32], c: usize, want: usize) -> bool
     requires { ⌜ c ≤ length (now a) ⌝ }
     ensures { λ r. ⌜ r ≡ isWhole (walkFrom (now (a .entry)) c want false) ⌝ }

@@ -83,8 +83,8 @@ check-request-requires : tie.Need-check-request-requires
 check-request-requires c κs =
     sound-lawful _ (gate-open _ (arena-open (c .before .before .before .before .before .before .before)))
 
-enum-known-request : tie.Need-enum-known-request
-enum-known-request c = search needs
+enum-known-asked : tie.Need-enum-known-asked
+enum-known-asked c = search needs
 
 same-length-3 : tie.Need-same-length-3
 same-length-3 c = search needs
@@ -92,7 +92,7 @@ same-length-3 c = search needs
 returns-3 : tie.Need-returns-3
 unfolding reallocOn
 returns-3 c =
-    rw (← arena-open (c .before .before .before .before .before .before .before .before .before .before .before), here (c .before .before .before .before .before .before) .spot, ← (sym (c .before .request .given .1) ∙ requested (c .before .before .before))) (record { answers = refl; leaves = refl })
+    rw (← arena-open (c .before .before .before .before .before .before .before .before .before .before .before), here (c .before .before .before .before .before .before) .spot, ← (sym (c .before .asked .given .1) ∙ requested (c .before .before .before))) (record { answers = refl; leaves = refl })
 
 enum-told-3 : tie.Need-enum-told-3
 enum-told-3 c = search needs
@@ -140,7 +140,7 @@ realloc-spec =
     returns-2
     wide-requires-2
     check-request-requires
-    enum-known-request
+    enum-known-asked
     same-length-3
     returns-3
     enum-told-3

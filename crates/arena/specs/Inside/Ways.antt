@@ -8,7 +8,7 @@ use Rattle.layout.specs.Walk.{chunksOf}
 use Rattle.layout.specs.declared.Reason.the-variants.{NoRoom}
 use Rattle.arena.specs.Spots.{at, firstFit}
 use Rattle.arena.specs.Rules.{Way as RuleWay}
-use Rattle.arena.specs.Rules.{shut, grants, orElse, taken, cut, grantFrom, shrink, grow, move}
+use Rattle.arena.specs.Rules.{shut, grants, orElse, taken, cut, grantFrom, shrink, grow, move, regranted}
 use Rattle.arena.specs.declared.Granted.{Granted}
 use Rattle.arena.specs.declared.Granted.the-variants.{Block, Refused}
 use Rattle.arena.specs.declared.grant.Way.{Way}
@@ -53,8 +53,7 @@ abbrev pub byMove : ℕ → ℕ → List ℕ → List Chunk → ℕ → List Chu
 byMove b need a pre s post = move b (s - headerWords) (grantFrom need (firstFit need (chunksOf a))) a
 
 abbrev pub inOrder : ℕ → ℕ → List ℕ → List Chunk → ℕ → List Chunk → RuleWay
-inOrder b need a pre s post =
-    orElse (shrink b need (at pre (live s) post) a) (orElse (grow b need (at pre (live s) post) a) (byMove b need a pre s post))
+inOrder b need a pre s post = regranted b need (at pre (live s) post) (grantFrom need (firstFit need (chunksOf a))) a
 
 abbrev pub grantsOf : Piece → Way
 grantsOf piece = Grants (piece .chunk + headerWords) (piece .words - headerWords)
