@@ -54,12 +54,16 @@ reported-injective (NotReported w) (NotReported w′) e = ap NotReported (number
 
 -- ---- two results, and the words left with each, that give the same outcome
 
+-- two things that are each what is said are the same
+agree : {A : Type 0} {x y said : A} → x ≡ said → y ≡ said → x ≡ y
+agree p q = p ∙ sym q
+
 abbrev pub Determined : {A : Type 0} → (A → Answer) → Outcome → Type 0
 Determined {A} numbers outcome =
     (r r′ : A) (after after′ : List ℕ) → Gives outcome (numbers r) after → Gives outcome (numbers r′) after′ → (r ≡ r′) × (after ≡ after′)
 
 pub determined : {A : Type 0} (numbers : A → Answer) → ((r r′ : A) → numbers r ≡ numbers r′ → r ≡ r′) → (outcome : Outcome) → Determined numbers outcome
-determined numbers injective outcome r r′ after after′ g g′ = (injective r r′ (g .answers ∙ sym (g′ .answers)), g .leaves ∙ sym (g′ .leaves))
+determined numbers injective outcome r r′ after after′ g g′ = (injective r r′ (agree (g .answers) (g′ .answers)), agree (g .leaves) (g′ .leaves))
 
 pub start-determined : (a : List ℕ) → Determined finishNumbers (startOn a)
 start-determined a = determined finishNumbers finish-injective (startOn a)
@@ -82,4 +86,4 @@ report-determined a = determined reportedNumbers reported-injective (reportOn a)
 -- a view answers a part of the arena: its words, and where they lie
 pub view-determined : (a : List ℕ) (place : ℕ × ℕ) (b : ℕ) (part part′ : List ℕ) (lies lies′ : ℕ × ℕ)
     → Views a place b part lies → Views a place b part′ lies′ → (part ≡ part′) × (lies ≡ lies′)
-view-determined a place b part part′ lies lies′ v v′ = (v .holds ∙ sym (v′ .holds), v .stands ∙ sym (v′ .stands))
+view-determined a place b part part′ lies lies′ v v′ = (agree (v .holds) (v′ .holds), agree (v .stands) (v′ .stands))

@@ -28,3 +28,4 @@ pub mod Starting
 pub mod Keeping
 pub mod Reasons
 pub mod Largest
+pub mod Corners

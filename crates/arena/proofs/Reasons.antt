@@ -61,7 +61,7 @@ module _ (a : List ℕ) where
   unfolding requestGate
   large-gate n m = rw (ne-eqb n 0 (omega arith), lt-leb n (greatestRequest (length a)) m)
 
-  request-gate : (n : ℕ) → Request a n → requestGate (length a) n ≡ Open
+  pub request-gate : (n : ℕ) → Request a n → requestGate (length a) n ≡ Open
   unfolding requestGate
   request-gate n r = rw (ne-eqb n 0 (omega arith), le-leb n (greatestRequest (length a)) (r .1))
 
