@@ -2,17 +2,13 @@
 use mathlib.Core.Path.{_≡_, refl}
 use mathlib.Core.Bool.{Bool, true, false, cond}
 use mathlib.Core.List.{List, [], _∷_, _++_}
-use Prim.Native.Nat.{ℕ, _+_, _-_, _<_}
-use native.Mathlib.Omega.{arith}
-use lib.Dec.{leb, eqb}
+use Prim.Native.Nat.{ℕ, _+_, _-_}
 use lib.ListN.{length}
-use borrow.Author.Tests.{eqb-true, eqb-false, leb-true, leb-false}
-use Rattle.layout.specs.Numbers.{firstChunk, controlWords, headerWords, lawful, greatestRequest, need}
+use Rattle.layout.specs.Numbers.{firstChunk, controlWords, headerWords, lawful, need}
 use Rattle.layout.specs.Chunks.{Chunk, free, live, total, written}
 use Rattle.layout.specs.Walk.{sound, chunksOf}
-use Rattle.layout.specs.Reasons.{arenaGate, requestGate}
+use Rattle.layout.specs.Reasons.{arenaGate}
 use Rattle.layout.specs.declared.Gate.{Gate}
-use Rattle.layout.specs.declared.Gate.the-variants.{Open, Shut}
 use Rattle.layout.specs.declared.Reason.{Reason}
 use Rattle.layout.specs.declared.Reason.the-variants.{Length, Damaged, NotABlock, Zero, TooLarge, NoRoom}
 use Rattle.arena.specs.Answers.{Outcome, refusal, success, done, refused, settle, pass}
@@ -20,42 +16,13 @@ use Rattle.arena.specs.Spots.{Spot, at, held}
 use Rattle.arena.specs.Rules.{taken, cut, joined, released, grantedAt, grantFrom, allotted, freeWords, widest, liveBlocks, freeChunks}
 use Rattle.arena.specs.Calls.{onBlock, granted, startOn, allocBy, allocOn, freeOn, sizeOn, reportOn}
 use Rattle.arena.proofs.Blocks.{BlockAt, GapAt, Held, no-block, a-block, held-told, Fitting, no-gap, a-gap, fitting-told}
+use Rattle.arena.proofs.Gates.{Checked, unlawful, damaged, whole, checked, Asked, for-none, for-more, for-some, asked}
 use Rattle.arena.proofs.Causes.{Request, StartRefused, ReportRefused, BlockRefused, AllocRefused}
 
 -- an outcome of a call on the words `a`: `Refuses` is what the reasons say, and `Does` what is known of the fields and the words if it is done
 pub data Case (fields : ℕ) (a : List ℕ) (Refuses : Reason → Type 0) (Does : List ℕ → List ℕ → Type 0) : Outcome → Type 0 where
   refuses : (why : Reason) → Refuses why → Case fields a Refuses Does (record { answer = refusal fields why; words = a })
   does : {values after : List ℕ} → Does values after → Case fields a Refuses Does (record { answer = success values; words = after })
-
--- ---- the gates
-
-pub data Checked (a : List ℕ) : Gate → Type 0 where
-  unlawful : lawful (length a) ≡ false → Checked a (Shut Length)
-  damaged : lawful (length a) ≡ true → sound a ≡ false → Checked a (Shut Damaged)
-  whole : sound a ≡ true → Checked a Open
-
-pub checked : (a : List ℕ) → Checked a (arenaGate a)
-unfolding arenaGate
-checked a = go (lawful (length a)) (sound a) refl refl
-  where
-    go : (l s : Bool) → lawful (length a) ≡ l → sound a ≡ s → Checked a (cond l (cond s Open (Shut Damaged)) (Shut Length))
-    go false s e f = unlawful e
-    go true false e f = damaged e f
-    go true true e f = whole f
-
-pub data Asked (a : List ℕ) (n : ℕ) : Gate → Type 0 where
-  for-none : n ≡ 0 → Asked a n (Shut Zero)
-  for-more : greatestRequest (length a) < n → Asked a n (Shut TooLarge)
-  for-some : Request a n → Asked a n Open
-
-pub asked : (a : List ℕ) (n : ℕ) → Asked a n (requestGate (length a) n)
-unfolding requestGate
-asked a n = go (eqb n 0) (leb n (greatestRequest (length a))) refl refl
-  where
-    go : (z f : Bool) → eqb n 0 ≡ z → leb n (greatestRequest (length a)) ≡ f → Asked a n (cond z (Shut Zero) (cond f Open (Shut TooLarge)))
-    go true f e h = for-none (eqb-true n 0 e)
-    go false false e h = for-more (leb-false _ _ h)
-    go false true e h = for-some (omega (arith, eqb-false n 0 e), leb-true _ _ h)
 
 -- ---- the calls
 
@@ -78,9 +45,9 @@ pub data Allots (a : List ℕ) (n : ℕ) : List ℕ → List ℕ → Type 0 wher
 
 pub alloc-case : (a : List ℕ) (n : ℕ) → Case 2 a (AllocRefused a n) (Allots a n) (allocOn a n)
 unfolding allocBy
-alloc-case a n = go (checked a) (asked a n) (fitting-told a (need n))
+alloc-case a n = go (checked a) (asked (length a) n) (fitting-told a (need n))
   where
-    go : {arena request : Gate} {gap : Spot} → Checked a arena → Asked a n request → Fitting a (need n) gap
+    go : {arena request : Gate} {gap : Spot} → Checked a arena → Asked (length a) n request → Fitting a (need n) gap
         → Case 2 a (AllocRefused a n) (Allots a n) (settle 2 a (pass arena (pass request (granted (allotted (grantFrom (need n) gap) a)))))
     go (unlawful e) q g = refuses Length e
     go (damaged e f) q g = refuses Damaged (e, f)

@@ -9,7 +9,7 @@ use lib.ListN.{length, getD, take, drop, length-take, length-drop}
 use borrow.Author.Tests.{le-leb, lt-leb}
 use Rattle.layout.specs.Numbers.{firstChunk, headerWords, leastSplit, need}
 use Rattle.layout.specs.Chunks.{Chunk, live, total, written}
-use Rattle.layout.specs.Walk.{sound, chunksOf}
+use Rattle.layout.specs.Walk.{sound}
 use Rattle.layout.proofs.Holds.{sizes-split, total-append}
 use Rattle.layout.proofs.Reasons.{number-positive}
 use Rattle.layout.proofs.Written.{Arena, written-fixed}
@@ -20,7 +20,7 @@ use Rattle.arena.proofs.Joining.{joined-spaced}
 use Rattle.arena.proofs.Blocks.{BlockAt, block-held}
 use Rattle.arena.proofs.Causes.{Request, BlockRefused}
 use Rattle.arena.proofs.Cases.{Case, refuses, does, Measures, measures, size-case}
-use Rattle.arena.proofs.Reasons.{sound-gate, request-gate}
+use Rattle.arena.proofs.Gates.{sound-gate, request-gate}
 
 module _ (a : List ℕ) (b : ℕ) (pre : List Chunk) (s : ℕ) (post : List Chunk) (e : sound a ≡ true) (is : BlockAt a b pre s post) where
   arena : Arena a (pre ++ live s ∷ post)

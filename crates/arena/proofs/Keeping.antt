@@ -22,7 +22,7 @@ use Rattle.arena.specs.Inside.Places.{Needed, Stands}
 use Rattle.arena.proofs.Gates.{sound-lawful, request-needed}
 use Rattle.arena.proofs.Taking.{cut-lawful}
 use Rattle.arena.proofs.Copying.{length-copied}
-use Rattle.arena.proofs.Merging.{joined-lawful}
+use Rattle.arena.proofs.Joining.{joined-lawful}
 use Rattle.arena.proofs.Moving.{moved, moved-stands}
 use Rattle.arena.proofs.Starting.{whole-lawful}
 use Rattle.arena.proofs.Blocks.{BlockAt, GapAt}

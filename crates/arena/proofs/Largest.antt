@@ -20,7 +20,8 @@ use Rattle.arena.specs.Calls.{allocOn, reportOn}
 use Rattle.arena.proofs.Gates.{sound-lawful}
 use Rattle.arena.proofs.Causes.{AllocRefused}
 use Rattle.arena.proofs.Cases.{Case, refuses, does, Allots, allots, alloc-case}
-use Rattle.arena.proofs.Reasons.{sound-gate, alloc-done}
+use Rattle.arena.proofs.Gates.{sound-gate}
+use Rattle.arena.proofs.Reasons.{alloc-done}
 
 -- ---- the size of the largest free chunk
 

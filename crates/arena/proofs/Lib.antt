@@ -12,12 +12,10 @@ pub mod Releasing
 pub mod Allotting
 pub mod Tallying
 pub mod Finding
-pub mod Outcomes
-pub mod Merging
 pub mod Staying
 pub mod Moving
 pub mod Viewing
-pub mod Ordering
+pub mod Following
 pub mod Determined
 pub mod Blocks
 pub mod Causes

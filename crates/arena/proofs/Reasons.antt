@@ -1,17 +1,13 @@
 -- Each call gives each reason exactly when what the reason says, in `Causes`, is so, and is done exactly when none is.
 use mathlib.Core.Path.{_≡_, refl, subst}
 use mathlib.Core.Logic.{_↔_}
-use mathlib.Core.Bool.{true, false}
 use mathlib.Core.List.{List, [], _∷_}
-use Prim.Native.Nat.{ℕ, _-_, _<_}
+use Prim.Native.Nat.{ℕ, _-_}
 use native.Mathlib.Omega.{arith}
-use lib.ListN.{length}
-use borrow.Author.Tests.{eq-eqb, ne-eqb, le-leb, lt-leb}
-use Rattle.layout.specs.Numbers.{headerWords, lawful, greatestRequest, need}
+use Rattle.layout.specs.Numbers.{headerWords, need}
 use Rattle.layout.specs.Chunks.{Chunk, written}
-use Rattle.layout.specs.Walk.{sound, chunksOf}
-use Rattle.layout.specs.Reasons.{number, arenaGate, requestGate}
-use Rattle.layout.specs.declared.Gate.the-variants.{Open, Shut}
+use Rattle.layout.specs.Walk.{chunksOf}
+use Rattle.layout.specs.Reasons.{number, arenaGate}
 use Rattle.layout.specs.declared.Reason.{Reason}
 use Rattle.layout.specs.declared.Reason.the-variants.{Length, Damaged, NotABlock, Zero, TooLarge, NoRoom, Frame}
 use Rattle.layout.proofs.Reasons.{number-positive, number-injective}
@@ -19,9 +15,9 @@ use Rattle.arena.specs.Answers.{Outcome, done, settle, pass}
 use Rattle.arena.specs.Spots.{nowhere, held}
 use Rattle.arena.specs.Rules.{Way, orElse, released, grantedAt, grantFrom, move}
 use Rattle.arena.specs.Calls.{onBlock, granted, startOn, allocBy, allocOn, freeOn, reallocOn, sizeOn, reportOn}
-use Rattle.arena.proofs.Gates.{sound-lawful}
+use Rattle.arena.proofs.Gates.{unlawful-gate, damaged-gate, sound-gate, zero-gate, large-gate, request-gate}
 use Rattle.arena.proofs.Blocks.{no-block-held, block-held, no-gap-fits}
-use Rattle.arena.proofs.Causes.{Request, Short, StartRefused, ReportRefused, BlockRefused, AllocRefused, ReallocRefused}
+use Rattle.arena.proofs.Causes.{Short, StartRefused, ReportRefused, BlockRefused, AllocRefused, ReallocRefused}
 use Rattle.arena.proofs.Cases.{Case, refuses, does, start-case, alloc-case, free-case, size-case, report-case}
 use Rattle.arena.proofs.Regranting.{Stays, by-own, by-next, by-none, stays-told, realloc-case}
 
@@ -41,38 +37,14 @@ module _ {fields : ℕ} {a : List ℕ} {Refuses : Reason → Type 0} {Does : Lis
 -- ---- the reason that is so is given
 
 module _ (a : List ℕ) where
-  unlawful-gate : lawful (length a) ≡ false → arenaGate a ≡ Shut Length
-  unfolding arenaGate
-  unlawful-gate l = rw l
-
-  damaged-gate : lawful (length a) ≡ true → sound a ≡ false → arenaGate a ≡ Shut Damaged
-  unfolding arenaGate
-  damaged-gate l s = rw (l, s)
-
-  pub sound-gate : sound a ≡ true → arenaGate a ≡ Open
-  unfolding arenaGate
-  sound-gate e = rw (sound-lawful a e, e)
-
-  zero-gate : (n : ℕ) → n ≡ 0 → requestGate (length a) n ≡ Shut Zero
-  unfolding requestGate
-  zero-gate n z = rw (eq-eqb n 0 z)
-
-  large-gate : (n : ℕ) → greatestRequest (length a) < n → requestGate (length a) n ≡ Shut TooLarge
-  unfolding requestGate
-  large-gate n m = rw (ne-eqb n 0 (omega arith), lt-leb n (greatestRequest (length a)) m)
-
-  pub request-gate : (n : ℕ) → Request a n → requestGate (length a) n ≡ Open
-  unfolding requestGate
-  request-gate n r = rw (ne-eqb n 0 (omega arith), le-leb n (greatestRequest (length a)) (r .1))
-
   start-gives : (why : Reason) → StartRefused a why → startOn a .answer .code ≡ number why
   unfolding startOn
   start-gives why (is, l) = rw (is, l)
 
   report-gives : (why : Reason) → ReportRefused a why → reportOn a .answer .code ≡ number why
   unfolding reportOn
-  report-gives Length l = rw (unlawful-gate l)
-  report-gives Damaged (l, s) = rw (damaged-gate l s)
+  report-gives Length l = rw (unlawful-gate a l)
+  report-gives Damaged (l, s) = rw (damaged-gate a l s)
   report-gives NotABlock (e, h) = absurd h
   report-gives Zero (e, h) = absurd h
   report-gives TooLarge (e, h) = absurd h
@@ -82,9 +54,9 @@ module _ (a : List ℕ) where
   -- free and size
   block-gives : (b fields : ℕ) (values after : List ℕ) (why : Reason) → BlockRefused a b why
       → settle fields a (pass (arenaGate a) (onBlock (held b (chunksOf a)) (done values after))) .answer .code ≡ number why
-  block-gives b fields values after Length l = rw (unlawful-gate l)
-  block-gives b fields values after Damaged (l, s) = rw (damaged-gate l s)
-  block-gives b fields values after NotABlock (e, h) = rw (sound-gate e, no-block-held a b h)
+  block-gives b fields values after Length l = rw (unlawful-gate a l)
+  block-gives b fields values after Damaged (l, s) = rw (damaged-gate a l s)
+  block-gives b fields values after NotABlock (e, h) = rw (sound-gate a e, no-block-held a b h)
   block-gives b fields values after Zero (e, h) = absurd h
   block-gives b fields values after TooLarge (e, h) = absurd h
   block-gives b fields values after NoRoom (e, h) = absurd h
@@ -100,23 +72,23 @@ module _ (a : List ℕ) where
 
   alloc-gives : (n : ℕ) (why : Reason) → AllocRefused a n why → allocOn a n .answer .code ≡ number why
   unfolding allocBy
-  alloc-gives n Length l = rw (unlawful-gate l)
-  alloc-gives n Damaged (l, s) = rw (damaged-gate l s)
+  alloc-gives n Length l = rw (unlawful-gate a l)
+  alloc-gives n Damaged (l, s) = rw (damaged-gate a l s)
   alloc-gives n NotABlock (e, h) = absurd h
-  alloc-gives n Zero (e, z) = rw (sound-gate e, zero-gate n z)
-  alloc-gives n TooLarge (e, m) = rw (sound-gate e, large-gate n m)
-  alloc-gives n NoRoom (e, (r, h)) = rw (sound-gate e, request-gate n r, no-gap-fits a (need n) h)
+  alloc-gives n Zero (e, z) = rw (sound-gate a e, zero-gate a n z)
+  alloc-gives n TooLarge (e, m) = rw (sound-gate a e, large-gate a n m)
+  alloc-gives n NoRoom (e, (r, h)) = rw (sound-gate a e, request-gate a n r, no-gap-fits a (need n) h)
   alloc-gives n Frame h = absurd h
 
   realloc-gives : (b n : ℕ) (why : Reason) → ReallocRefused a b n why → reallocOn a b n .answer .code ≡ number why
   unfolding reallocOn
-  realloc-gives b n Length l = rw (unlawful-gate l)
-  realloc-gives b n Damaged (l, s) = rw (damaged-gate l s)
-  realloc-gives b n NotABlock (e, h) = rw (sound-gate e, no-block-held a b h)
-  realloc-gives b n Zero (e, ((pre, s, post, is), z)) = rw (sound-gate e, block-held a b pre s post e is, zero-gate n z)
-  realloc-gives b n TooLarge (e, ((pre, s, post, is), m)) = rw (sound-gate e, block-held a b pre s post e is, large-gate n m)
+  realloc-gives b n Length l = rw (unlawful-gate a l)
+  realloc-gives b n Damaged (l, s) = rw (damaged-gate a l s)
+  realloc-gives b n NotABlock (e, h) = rw (sound-gate a e, no-block-held a b h)
+  realloc-gives b n Zero (e, ((pre, s, post, is), z)) = rw (sound-gate a e, block-held a b pre s post e is, zero-gate a n z)
+  realloc-gives b n TooLarge (e, ((pre, s, post, is), m)) = rw (sound-gate a e, block-held a b pre s post e is, large-gate a n m)
   realloc-gives b n NoRoom (e, (r, (pre, s, post, is, l), h)) =
-      rw (sound-gate e, block-held a b pre s post e is, request-gate n r, no-gap-fits a (need n) h) (go l (stays-told a b (need n) pre s post))
+      rw (sound-gate a e, block-held a b pre s post e is, request-gate a n r, no-gap-fits a (need n) h) (go l (stays-told a b (need n) pre s post))
     where
       go : {pre post : List Chunk} {s : ℕ} {first second : Way} → Short s post (need n) → Stays a b (need n) pre s post first second
           → settle 2 a (granted (orElse first (orElse second (move b (s - headerWords) (grantFrom (need n) nowhere) a)))) .answer .code ≡ number NoRoom

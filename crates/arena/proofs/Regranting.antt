@@ -2,6 +2,7 @@
 use mathlib.Core.Path.{_≡_, refl}
 use mathlib.Core.Bool.{Bool, true, false, cond}
 use mathlib.Core.List.{List, [], _∷_, _++_}
+use lib.ListN.{length}
 use Prim.Native.Nat.{ℕ, _+_, _-_, _≤_, _<_}
 use native.Mathlib.Omega.{arith}
 use lib.Dec.{leb}
@@ -19,7 +20,8 @@ use Rattle.arena.specs.Inside.Rooms.{roomWords}
 use Rattle.arena.proofs.Room.{room-words}
 use Rattle.arena.proofs.Blocks.{BlockAt, GapAt, Held, no-block, a-block, held-told, Fitting, no-gap, a-gap, fitting-told}
 use Rattle.arena.proofs.Causes.{Request, Short, ReallocRefused}
-use Rattle.arena.proofs.Cases.{Case, refuses, does, Checked, unlawful, damaged, whole, checked, Asked, for-none, for-more, for-some, asked}
+use Rattle.arena.proofs.Cases.{Case, refuses, does}
+use Rattle.arena.proofs.Gates.{Checked, unlawful, damaged, whole, checked, Asked, for-none, for-more, for-some, asked}
 
 short-room : (s : ℕ) (post : List Chunk) (need : ℕ) → roomWords s post < need → Short s post need
 short-room s post need l =
@@ -61,7 +63,7 @@ pub data Regrants (a : List ℕ) (b n : ℕ) : List ℕ → List ℕ → Type 0 
 
 pub realloc-case : (a : List ℕ) (b n : ℕ) → Case 2 a (ReallocRefused a b n) (Regrants a b n) (reallocOn a b n)
 unfolding reallocOn
-realloc-case a b n = go (checked a) (held-told a b) (asked a n) (fitting-told a (need n))
+realloc-case a b n = go (checked a) (held-told a b) (asked (length a) n) (fitting-told a (need n))
   where
     at-block : {first second : Way} {gap : Spot} (pre : List Chunk) (s : ℕ) (post : List Chunk) → sound a ≡ true → Request a n → BlockAt a b pre s post → Stays a b (need n) pre s post first second → Fitting a (need n) gap
         → Case 2 a (ReallocRefused a b n) (Regrants a b n) (settle 2 a (granted (orElse first (orElse second (move b (s - headerWords) (grantFrom (need n) gap) a)))))
@@ -70,7 +72,7 @@ realloc-case a b n = go (checked a) (held-told a b) (asked a n) (fitting-told a 
     at-block pre s post e r is (by-none l) (no-gap h) = refuses NoRoom (e, (r, (pre, s, post, is, l), h))
     at-block pre s post e r is (by-none l) (a-gap before g after gap) = does (moves e r pre s post is l before g after gap _ refl _ refl)
 
-    go : {arena request : Gate} {spot gap : Spot} → Checked a arena → Held a b spot → Asked a n request → Fitting a (need n) gap
+    go : {arena request : Gate} {spot gap : Spot} → Checked a arena → Held a b spot → Asked (length a) n request → Fitting a (need n) gap
         → Case 2 a (ReallocRefused a b n) (Regrants a b n)
         (settle 2 a (pass arena (onBlock spot (pass request (granted (orElse (shrink b (need n) spot a) (orElse (grow b (need n) spot a) (move b (grantedAt spot) (grantFrom (need n) gap) a))))))))
     go (unlawful e) h q g = refuses Length e

@@ -11,22 +11,15 @@ use Rattle.layout.specs.Chunks.{Chunk, free, live, header, write, written}
 use Rattle.layout.proofs.Holds.{Spaced, spaced-under, spaced-weaken}
 use Rattle.layout.proofs.Written.{written-fixed}
 use Rattle.arena.specs.Spots.{at}
-use Rattle.arena.specs.Rules.{Way as RuleWay}
 use Rattle.arena.specs.Rules.{shut, join, joined, stay, grow}
 use Rattle.arena.specs.Inside.Places.{Stands, Needed}
 use Rattle.arena.specs.Inside.Ways.{Follows, inPlace}
 use Rattle.arena.specs.Inside.Rooms.{HasRoom, roomWords, roomAfter, splitOff}
-use Rattle.arena.specs.declared.grant.Way.{Way}
 use Rattle.arena.specs.declared.grant.Way.the-variants.{Grants, Shut}
 use Rattle.arena.specs.declared.release.Room.{Room}
 use Rattle.arena.proofs.Standing.{reads}
-use Rattle.arena.proofs.Joining.{joined-spaced, spaced-after}
-use Rattle.arena.proofs.Merging.{joined-from}
+use Rattle.arena.proofs.Joining.{joined-spaced, joined-from, spaced-after}
 use Rattle.arena.proofs.Room.{room-joins, room-words, room-spaced, bounds, become}
-
--- what follows a way still does, said otherwise
-pub follows-as : {way : RuleWay} {a : List ℕ} {answer answer′ : Way} {after after′ : List ℕ} → answer′ ≡ answer → after′ ≡ after → Follows way a answer after → Follows way a answer′ after′
-follows-as e q f = record { answers = e ∙ f .answers; leaves = q ∙ f .leaves }
 
 -- words over go to the free chunk right after, or are one themselves
 pub join-room : (x s need : ℕ) (post : List Chunk) → x ≡ s - need → need ≤ s → join (free x) post ≡ free (roomWords s post - need) ∷ roomAfter post

@@ -8,7 +8,7 @@ use Rattle.layout.specs.Reasons.{arenaGate, requestGate}
 use Rattle.layout.specs.declared.Gate.the-variants.{Open}
 use Rattle.arena.specs.Calls.{allocBy}
 use Rattle.arena.proofs.Gates.{gate-open, sound-lawful, request-small, request-open}
-use Rattle.arena.proofs.Outcomes.{way-gives}
+use Rattle.arena.proofs.Following.{way-gives}
 use Rattle.arena.proofs.alloc.Statement.{statement}
 use Rattle.arena.proofs.alloc.Tie as tie
 

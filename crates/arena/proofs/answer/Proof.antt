@@ -1,5 +1,4 @@
 -- `arena::answer` meets its contract: each arm is given which way it is.
--- Assumes nothing.
 use mathlib.Core.Path.{sym, ap}
 use borrow.Author.Needs.{needs}
 use Rattle.arena.specs.Inside.Ways.{grantedOf}

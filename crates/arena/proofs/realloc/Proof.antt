@@ -12,7 +12,7 @@ use Rattle.arena.specs.Inside.Places.{placeOf}
 use Rattle.arena.proofs.Gates.{gate-open, sound-lawful, request-small, request-open}
 use Rattle.arena.proofs.Standing.{found-nowhere}
 use Rattle.arena.proofs.Finding.{FoundBlock, found-block}
-use Rattle.arena.proofs.Outcomes.{way-gives}
+use Rattle.arena.proofs.Following.{way-gives}
 use borrow.Author.Needs.{needs}
 use Rattle.arena.proofs.realloc.Statement.{statement}
 use Rattle.arena.proofs.realloc.Tie as tie

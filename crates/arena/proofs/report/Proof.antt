@@ -1,5 +1,4 @@
 -- `arena::report` meets its contract: what `check_arena` and `count` ensure says what `reportOn` is, and the counts of a sound arena are small.
--- Assumes nothing.
 use mathlib.Core.Path.{_≡_, refl, sym, _∙_}
 use borrow.Author.Needs.{needs}
 use Rattle.layout.specs.Reasons.{arenaGate}

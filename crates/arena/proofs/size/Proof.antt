@@ -1,5 +1,4 @@
 -- `arena::size` meets its contract: what `check_arena` and `find` ensure says what `sizeOn` is.
--- Assumes nothing.
 use Prim.Native.Nat.{ℕ, _-_}
 use mathlib.Core.Path.{_≡_, refl, sym, ap, _∙_}
 use mathlib.Core.List.{[], _∷_}

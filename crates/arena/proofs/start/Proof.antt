@@ -1,5 +1,4 @@
 -- `arena::start` meets its contract: the two headers that `put` stores are those of one free chunk.
--- Assumes nothing.
 use Prim.Native.Nat.{_≤_}
 use mathlib.Core.Path.{_≡_, refl, sym, _∙_}
 use mathlib.Core.Bool.{true}

@@ -1,5 +1,5 @@
 -- The check walk, `layout::after_free` and `layout::after_live`, meets its contract: each `return` is one law of `proofs/Walking.antt`, at the tests that led to it.
--- The measure is the words that are left: a size that is not 0 is at least 4. Assumes nothing.
+-- The measure is the words that are left: a size that is not 0 is at least 4.
 use Prim.Native.Nat.{ℕ, _<_, _≤_, _-_}
 use mathlib.Core.Path.{sym, _∙_}
 use mathlib.Core.Bool.{true, false}

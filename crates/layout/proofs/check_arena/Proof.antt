@@ -1,5 +1,4 @@
 -- `layout::check_arena` meets its contract: what `is_lawful` and `is_sound` ensure says what `arenaGate` is.
--- Assumes nothing.
 use mathlib.Core.Path.{sym, _∙_}
 use borrow.Author.Needs.{needs}
 use Rattle.layout.specs.Reasons.{arenaGate}

@@ -1,5 +1,5 @@
 -- `layout::check_request` meets its contract: the tests that led to each `return` say what `requestGate` is.
--- The subtraction holds since a lawful arena has at least 6 words. Assumes nothing.
+-- The subtraction holds since a lawful arena has at least 6 words.
 use native.Mathlib.Omega.{arith}
 use borrow.Author.Needs.{needs}
 use borrow.Author.Tests.{eq-eqb, ne-eqb, le-leb, lt-leb}

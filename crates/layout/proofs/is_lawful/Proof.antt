@@ -1,5 +1,4 @@
 -- `layout::is_lawful` meets its contract: the flag of the first two tests is their `&&`, and with the third that is `lawful`.
--- Assumes nothing.
 use mathlib.Core.Path.{_≡_}
 use mathlib.Core.Bool.{_&&_}
 use mathlib.Core.Logic.{⊎-elim}

@@ -1,5 +1,4 @@
 -- `layout::size_at` meets its contract: the tests that led to each `return` say what `sizeAt` is.
--- Assumes nothing.
 use borrow.Author.Needs.{needs}
 use borrow.Author.Tests.{eq-eqb, ne-eqb}
 use mathlib.Core.Logic.{⊎-elim}

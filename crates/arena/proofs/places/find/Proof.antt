@@ -1,5 +1,5 @@
 -- `arena::places::find` meets its contract. The loop's invariant: the chunks from `chunk` on are left, and `link` names the first free one of them.
--- The measure is what is left of the words. Assumes nothing.
+-- The measure is what is left of the words.
 use Prim.Native.Nat.{_+_, _-_, _≤_}
 use mathlib.Core.Path.{refl}
 use mathlib.Core.Logic.{⊎-elim}

@@ -1,5 +1,5 @@
 -- `arena::places::first_fit` meets its contract. The loop's invariant: some of the chunks are left, and `link` names the first free one of them.
--- The measure is what is left of the words. Assumes nothing.
+-- The measure is what is left of the words.
 use Prim.Native.Nat.{ℕ, _-_}
 use mathlib.Core.Path.{sym, _∙_}
 use mathlib.Core.List.{List, _∷_}

@@ -1,5 +1,4 @@
 -- `arena::stores::change` meets its contract: a word that is `v` already is stored to no effect.
--- Assumes nothing.
 use mathlib.Core.Path.{sym, _∙_}
 use borrow.Author.Needs.{needs}
 use Rattle.layout.proofs.Written.{set-same}

@@ -1,5 +1,5 @@
 -- `arena::stores::copy` meets its contract. The loop's invariant: `k` words are copied. The words still to copy are as they were, since the two runs are apart.
--- The measure is how many words are left. Assumes nothing.
+-- The measure is how many words are left.
 use Prim.Native.Nat.{_-_, _≤_}
 use mathlib.Core.Path.{_≡_, refl, ap, _∙_}
 use native.Mathlib.Omega.{arith}

@@ -1,5 +1,4 @@
 -- `arena::stores::put` meets its contract: a header is two stores.
--- Assumes nothing.
 use borrow.Author.Needs.{needs}
 use Rattle.layout.specs.Chunks.{header}
 use Rattle.arena.proofs.stores.put.Statement.{statement}

@@ -1,5 +1,4 @@
 -- `arena::stores::put_live` meets its contract: the header that `put` stores, with the mark of a live chunk.
--- Assumes nothing.
 use borrow.Author.Needs.{needs}
 use Rattle.arena.proofs.stores.put_live.Statement.{statement}
 use Rattle.arena.proofs.stores.put_live.Tie as tie

@@ -1,5 +1,5 @@
 -- `arena::tally::count` meets its contract. The loop's invariant: `t` counts the chunks before `chunk`, and the others are left.
--- The measure is what is left of the words. Assumes nothing.
+-- The measure is what is left of the words.
 use Prim.Native.Nat.{ℕ, _+_, _-_, _≤_}
 use mathlib.Core.Path.{_∙_}
 use mathlib.Core.Logic.{⊎-elim}

@@ -1,5 +1,4 @@
 -- `arena::tally::with_free` meets its contract: `larger` gives the widest.
--- Assumes nothing.
 use borrow.Author.Needs.{needs}
 use Rattle.arena.proofs.tally.with_free.Statement.{statement}
 use Rattle.arena.proofs.tally.with_free.Tie as tie

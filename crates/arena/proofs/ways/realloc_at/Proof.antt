@@ -10,7 +10,7 @@ use Rattle.arena.specs.Rules.{shut}
 use Rattle.arena.specs.Inside.Places.{Stands}
 use Rattle.arena.specs.Inside.Ways.{inPlace}
 use Rattle.arena.proofs.Standing.{reads}
-use Rattle.arena.proofs.Ordering.{ways-in-order, shut-way, open-way, shrink-shut}
+use Rattle.arena.proofs.Following.{ways-in-order, shut-way, open-way, shrink-shut}
 use borrow.Author.Needs.{needs}
 use Rattle.arena.proofs.ways.realloc_at.Statement.{statement}
 use Rattle.arena.proofs.ways.realloc_at.Tie as tie

@@ -10,7 +10,8 @@ use Rattle.layout.specs.Chunks.{Chunk, live, header}
 use Rattle.arena.specs.Inside.Places.{Stands}
 use Rattle.arena.proofs.Standing.{Reads, reads}
 use Rattle.arena.proofs.Room.{bounds}
-use Rattle.arena.proofs.Staying.{follows-as, keeps, shrinks, too-short, grows-whole, grows-part}
+use Rattle.arena.proofs.Following.{follows-as}
+use Rattle.arena.proofs.Staying.{keeps, shrinks, too-short, grows-whole, grows-part}
 use borrow.Author.Needs.{needs}
 use Rattle.arena.proofs.ways.resize.Statement.{statement}
 use Rattle.arena.proofs.ways.resize.Tie as tie

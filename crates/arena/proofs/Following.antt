@@ -1,5 +1,5 @@
--- The ways of realloc in their order.
-use mathlib.Core.Path.{_≡_, refl}
+-- To have followed a way of the rules: what the answer is then, and which of several ways it was.
+use mathlib.Core.Path.{_≡_, refl, _∙_}
 use mathlib.Core.Bool.{Bool, true, false, cond}
 use mathlib.Core.List.{List}
 use Prim.Native.Nat.{ℕ, _<_}
@@ -7,11 +7,26 @@ use native.Mathlib.Omega.{arith}
 use lib.Dec.{leb}
 use borrow.Author.Tests.{leb-false}
 use Rattle.layout.specs.Chunks.{Chunk, live}
+use Rattle.arena.specs.Answers.{settle, Gives, grantedNumbers}
 use Rattle.arena.specs.Spots.{at}
 use Rattle.arena.specs.Rules.{Way as RuleWay}
 use Rattle.arena.specs.Rules.{shut, grants, orElse, shrink}
-use Rattle.arena.specs.Inside.Ways.{Follows}
+use Rattle.arena.specs.Calls.{granted}
+use Rattle.arena.specs.Inside.Ways.{Follows, grantedOf}
+use Rattle.arena.specs.declared.grant.Way.{Way}
 use Rattle.arena.specs.declared.grant.Way.the-variants.{Grants, Shut}
+
+-- what follows a way still does, said otherwise
+pub follows-as : {way : RuleWay} {a : List ℕ} {answer answer′ : Way} {after after′ : List ℕ} → answer′ ≡ answer → after′ ≡ after → Follows way a answer after → Follows way a answer′ after′
+follows-as e q f = record { answers = e ∙ f .answers; leaves = q ∙ f .leaves }
+
+-- what a call that grants comes to
+pub way-gives : (way : RuleWay) (a : List ℕ) (answer : Way) (after : List ℕ) → Follows way a answer after
+    → Gives (settle 2 a (granted way)) (grantedNumbers (grantedOf answer)) after
+way-gives shut a answer after f = rw (f .answers, f .leaves) (record { answers = refl; leaves = refl })
+way-gives (grants block words left) a answer after f = rw (f .answers, f .leaves) (record { answers = refl; leaves = refl })
+
+-- ---- the ways of realloc in their order
 
 -- three ways in a row
 pub ways-in-order : (first second third : RuleWay) → orElse (orElse first second) third ≡ orElse first (orElse second third)
