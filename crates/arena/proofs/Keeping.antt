@@ -2,30 +2,28 @@
 use mathlib.Core.Path.{_≡_, refl, _∙_}
 use mathlib.Core.Bool.{Bool, true, false, cond}
 use mathlib.Core.List.{List, [], _∷_, _++_}
-use Prim.Native.Nat.{ℕ, _+_, _-_, _%_, _≤_, _<_}
+use Prim.Native.Nat.{ℕ, _+_, _-_, _%_, _≤_}
 use native.Mathlib.Omega.{arith}
 use lib.ListN.{length}
 use borrow.Author.Tests.{leb-true}
-use Rattle.layout.specs.Numbers.{firstChunk, listWord, headerWords, leastSplit, need}
+use Rattle.layout.specs.Numbers.{headerWords, leastSplit, need}
 use Rattle.layout.specs.Chunks.{Chunk, free, live, total, written}
 use Rattle.layout.specs.Walk.{sound, chunksOf}
-use Rattle.layout.specs.Links.{linkAt}
 use Rattle.layout.specs.declared.Reason.{Reason}
 use Rattle.layout.proofs.Holds.{Lawful, sizes-split, total-even}
 use Rattle.layout.proofs.Written.{length-written}
 use Rattle.layout.proofs.Round.{sound-chunks, written-sound}
 use Rattle.arena.specs.Answers.{Outcome}
-use Rattle.arena.specs.Spots.{at, held}
+use Rattle.arena.specs.Spots.{held}
 use Rattle.arena.specs.Rules.{splits, taken, cut, trim, joined, released, copied}
 use Rattle.arena.specs.Calls.{startOn, allocOn, freeOn, reallocOn}
-use Rattle.arena.specs.Inside.Places.{Needed, Stands}
+use Rattle.arena.specs.Inside.Places.{Needed}
 use Rattle.arena.proofs.Gates.{sound-lawful, request-needed}
 use Rattle.arena.proofs.Taking.{cut-lawful}
 use Rattle.arena.proofs.Copying.{length-copied}
 use Rattle.arena.proofs.Joining.{joined-lawful}
-use Rattle.arena.proofs.Moving.{moved, moved-stands}
+use Rattle.arena.proofs.Relocating.{Relocated, relocated}
 use Rattle.arena.proofs.Starting.{whole-lawful}
-use Rattle.arena.proofs.Blocks.{BlockAt, GapAt}
 use Rattle.arena.proofs.Cases.{Case, refuses, does, Starts, starts, start-case, Allots, allots, alloc-case, Frees, frees, free-case}
 use Rattle.arena.proofs.Regranting.{Regrants, shrinks, grows, moves, realloc-case}
 
@@ -49,17 +47,17 @@ kept f (does {values} {after} d) = f values after d
 -- ---- the chunks that are written are lawful
 
 module _ (a : List ℕ) (e : sound a ≡ true) where
-  chunks-lawful : (ks : List Chunk) → chunksOf a ≡ ks → Lawful (length a) ks
+  pub chunks-lawful : (ks : List Chunk) → chunksOf a ≡ ks → Lawful (length a) ks
   chunks-lawful ks same = rw same at (sound-chunks a e .law)
 
-  freed-lawful : (pre : List Chunk) (s : ℕ) (post : List Chunk) → chunksOf a ≡ pre ++ live s ∷ post → Lawful (length a) (joined (pre ++ free s ∷ post))
+  pub freed-lawful : (pre : List Chunk) (s : ℕ) (post : List Chunk) → chunksOf a ≡ pre ++ live s ∷ post → Lawful (length a) (joined (pre ++ free s ∷ post))
   freed-lawful pre s post same =
       let l = chunks-lawful _ same in
       let z = sizes-split pre (live s ∷ post) (l .sizes) .1 in
       joined-lawful (length a) pre (live s ∷ []) (free s ∷ []) post l (z .0, z .1, tt) refl
 
   -- a need of the words of some chunks, `old`, is kept
-  trimmed-lawful : (pre old post : List Chunk) (words need : ℕ) → chunksOf a ≡ pre ++ (old ++ post) → total old ≡ words → Needed need → need ≤ words
+  pub trimmed-lawful : (pre old post : List Chunk) (words need : ℕ) → chunksOf a ≡ pre ++ (old ++ post) → total old ≡ words → Needed need → need ≤ words
       → Lawful (length a) (joined (pre ++ (trim need words ++ post)))
   trimmed-lawful pre old post words need same t n enough = go (splits need words) refl
     where
@@ -77,25 +75,15 @@ module _ (a : List ℕ) (e : sound a ≡ true) where
           joined-lawful (length a) pre old (live need ∷ free (words - need) ∷ []) post l (n .even, n .least, (omega (arith, n .even), over, tt)) (omega arith)
       go false e = joined-lawful (length a) pre old (live words ∷ []) post l (even, omega (arith, n .least), tt) (omega arith)
 
-freed-kept : {a : List ℕ} {pre : List Chunk} {s : ℕ} {post : List Chunk} {link chunk : ℕ} → Stands a pre (live s) post link chunk
-    → Kept a (written (released (at pre (live s) post)) a)
-freed-kept {a} {pre} {s} {post} st = written-kept _ a (freed-lawful a (st .is-sound) pre s post (st .same))
-
--- a block moves: a need is granted, the words are copied, and the old block is freed
-moved-kept : (a : List ℕ) (need : ℕ) (pre : List Chunk) (s : ℕ) (post before : List Chunk) (g : ℕ) (after : List Chunk) (b block : ℕ) (ks : List Chunk) → sound a ≡ true
-    → Needed need → BlockAt a b pre s post → GapAt a need before g after → s < need
-    → block ≡ firstChunk + total before + (g - taken need g) + headerWords → ks ≡ before ++ (cut need g ++ after)
+-- a block moves
+moved-kept : (a : List ℕ) (b block s : ℕ) (ks : List Chunk) → Relocated (copied b block (s - headerWords) (written ks a)) b s ks
     → Kept a (written (released (held b ks)) (copied b block (s - headerWords) (written ks a)))
-moved-kept a need pre s post before g after b block ks e n is gap longer at-is same =
-    let old : Stands a pre (live s) post (linkAt listWord firstChunk pre) (firstChunk + total pre) = record { is-sound = e; same = is .same; link-is = refl; at-is = refl } in
-    let new : Stands a before (free g) after (linkAt listWord firstChunk before) (firstChunk + total before) = record { is-sound = e; same = gap .same; link-is = refl; at-is = refl } in
-    let stands = moved-stands a pre s post _ _ old before g after _ _ new need n (gap .enough) longer in
-    let leaves = moved a pre s post _ _ old before g after _ _ new need n (gap .enough) longer (gap .lowest-is) .leaves in
-    let freed = freed-kept stands in
-    rw (same, at-is, ← is .number-is, ← (rw (gap .lowest-is) at leaves))
+moved-kept a b block s ks r =
+    let freed = written-kept _ _ (freed-lawful (copied b block (s - headerWords) (written ks a)) (r .is-sound) (r .pre) s (r .post) (r .old .same)) in
+    rw (r .leaves)
     (record {
-      same-length = freed .same-length ∙ length-copied _ _ _ _ ∙ length-written _ a;
-      still-sound = λ _. freed .still-sound (stands .is-sound);
+      same-length = freed .same-length ∙ length-copied _ _ _ _ ∙ length-written ks a;
+      still-sound = λ _. freed .still-sound (r .is-sound);
     })
 
 -- ---- the calls
@@ -129,7 +117,7 @@ module _ (a : List ℕ) where
       go values after (grows e r pre s t post is l m) =
           written-kept _ a (trimmed-lawful a e pre (live s ∷ free t ∷ []) post (s + t) (need n) (is .same) (omega arith) (request-needed (length a) n (sound-lawful a e) r) m)
       go values after (moves e r pre s post is l before g behind gap block at-is ks same) =
-          moved-kept a (need n) pre s post before g behind b block ks e (request-needed (length a) n (sound-lawful a e) r) is gap (l .own) at-is same
+          moved-kept a b block s ks (relocated a (need n) pre s post before g behind b block ks e (request-needed (length a) n (sound-lawful a e) r) is gap (l .own) at-is same)
 
   -- ---- the number of words
 

@@ -14,6 +14,7 @@ pub mod Tallying
 pub mod Finding
 pub mod Staying
 pub mod Moving
+pub mod Relocating
 pub mod Viewing
 pub mod Following
 pub mod Determined

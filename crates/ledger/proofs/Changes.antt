@@ -1,0 +1,80 @@
+-- A list of chunks in which some are replaced, and what the ledger of its blocks becomes: a grant, a free, a block that stays and a block that moves.
+use mathlib.Core.Path.{_≡_, refl, sym, ap, _∙_}
+use mathlib.Core.Logic.{_⊎_, inl, inr}
+use mathlib.Core.Bool.{Bool, true, false, cond}
+use mathlib.Core.List.{List, [], _∷_, _++_}
+use Prim.Native.Nat.{ℕ, _+_, _-_, _≤_}
+use native.Mathlib.Omega.{arith}
+use Rattle.layout.specs.Numbers.{firstChunk, headerWords}
+use Rattle.layout.specs.Chunks.{Chunk, free, live, total}
+use Rattle.layout.proofs.Holds.{Sizes}
+use Rattle.arena.specs.Rules.{splits, taken, cut, trim}
+use Rattle.ledger.specs.Ledger.{Entry, enter, strike, Listed, Unlisted}
+use Rattle.ledger.proofs.Blocks.{entryAt, blocksFrom, blocks-around, Laid, blocks-laid}
+use Rattle.ledger.proofs.Entries.{listed-append, laid-listed, enter-at, strike-at}
+
+-- ---- the blocks of what a rule puts in
+
+pub cut-blocks : (need s d : ℕ) → blocksFrom d (cut need s) ≡ entryAt (d + (s - taken need s)) (taken need s) ∷ []
+cut-blocks need s d = go (splits need s)
+  where
+    go : (split : Bool) → blocksFrom d (cond split (free (s - need) ∷ live need ∷ []) (live s ∷ [])) ≡ entryAt (d + (s - cond split need s)) (cond split need s) ∷ []
+    go true = refl
+    go false = ap (λ (c : ℕ). entryAt c s ∷ []) (omega arith)
+
+pub trim-blocks : (need s d : ℕ) → blocksFrom d (trim need s) ≡ entryAt d (taken need s) ∷ []
+trim-blocks need s d = go (splits need s)
+  where
+    go : (split : Bool) → blocksFrom d (cond split (live need ∷ free (s - need) ∷ []) (live s ∷ [])) ≡ entryAt d (cond split need s) ∷ []
+    go true = refl
+    go false = refl
+
+-- ---- a middle that is replaced: it lies between the words `d` and `e`, and `pre` and `post` stay
+
+module _ (pre post : List Chunk) (z : Sizes pre) (y : Sizes post) (d e : ℕ) (at : d ≡ firstChunk + total pre) where
+  -- the entries below the middle, and those above it
+  under : Laid firstChunk d (blocksFrom firstChunk pre)
+  under = blocks-laid firstChunk pre d at z
+
+  over : Laid e (e + total post) (blocksFrom e post)
+  over = blocks-laid e post (e + total post) refl y
+
+  -- it had no block, and is given one
+  pub enters : (old new : List Chunk) (f : Entry) → e ≡ d + total old → e ≡ d + total new → blocksFrom d old ≡ [] → blocksFrom d new ≡ f ∷ []
+      → d + headerWords ≤ f .block → f .block ≤ e
+      → enter f (blocksFrom firstChunk (pre ++ (old ++ post))) ≡ blocksFrom firstChunk (pre ++ (new ++ post))
+  enters old new f to to′ none one lo hi =
+      rw (blocks-around firstChunk pre old post d e at to, none, blocks-around firstChunk pre new post d e at to′, one)
+      (enter-at firstChunk d (blocksFrom firstChunk pre) under e (e + total post) (blocksFrom e post) over f lo hi)
+
+  -- it had a block, and is left without
+  pub leaves : (old new : List Chunk) (f : Entry) → e ≡ d + total old → e ≡ d + total new → blocksFrom d old ≡ f ∷ [] → blocksFrom d new ≡ []
+      → d + headerWords ≤ f .block → f .block ≤ e
+      → strike (f .block) (blocksFrom firstChunk (pre ++ (old ++ post))) ≡ blocksFrom firstChunk (pre ++ (new ++ post))
+  leaves old new f to to′ one none lo hi =
+      rw (blocks-around firstChunk pre old post d e at to, one, blocks-around firstChunk pre new post d e at to′, none)
+      (strike-at firstChunk d (blocksFrom firstChunk pre) under e (e + total post) (blocksFrom e post) over f lo hi)
+
+  -- it had a block, and has another
+  pub replaces : (old new : List Chunk) (f g : Entry) → e ≡ d + total old → e ≡ d + total new → blocksFrom d old ≡ f ∷ [] → blocksFrom d new ≡ g ∷ []
+      → d + headerWords ≤ f .block → f .block ≤ e → d + headerWords ≤ g .block → g .block ≤ e
+      → enter g (strike (f .block) (blocksFrom firstChunk (pre ++ (old ++ post)))) ≡ blocksFrom firstChunk (pre ++ (new ++ post))
+  replaces old new f g to to′ one other lo hi lo′ hi′ =
+      rw (
+        blocks-around firstChunk pre old post d e at to,
+        one,
+        strike-at firstChunk d (blocksFrom firstChunk pre) under e (e + total post) (blocksFrom e post) over f lo hi,
+        blocks-around firstChunk pre new post d e at to′,
+        other,
+      )
+      (enter-at firstChunk d (blocksFrom firstChunk pre) under e (e + total post) (blocksFrom e post) over g lo′ hi′)
+
+  -- where it has no block, no block's number lies there
+  pub fresh : (old : List Chunk) (b : ℕ) → e ≡ d + total old → blocksFrom d old ≡ [] → d + headerWords ≤ b → b ≤ e
+      → Unlisted (blocksFrom firstChunk (pre ++ (old ++ post))) b
+  fresh old b to none lo hi g l q =
+      go (listed-append (blocksFrom firstChunk pre) (blocksFrom e post) g (rw (blocks-around firstChunk pre old post d e at to, none) at l))
+    where
+      go : Listed (blocksFrom firstChunk pre) g ⊎ Listed (blocksFrom e post) g → ⊥
+      go (inl m) = omega (arith, laid-listed firstChunk d (blocksFrom firstChunk pre) g under m)
+      go (inr m) = omega (arith, laid-listed e (e + total post) (blocksFrom e post) g over m)

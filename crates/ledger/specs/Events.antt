@@ -1,0 +1,33 @@
+-- What may happen to an arena: a call, which a library answers, or a store by the holder of a block.
+use Prim.Native.Nat.{ℕ}
+use mathlib.Core.List.{List}
+use Rattle.arena.specs.Answers.{Outcome, success}
+use Rattle.arena.specs.Calls.{startOn, allocOn, freeOn, reallocOn, sizeOn, viewOn, reportOn}
+
+pub data Call : Type 0 where
+  start : Call
+  alloc : (n : ℕ) → Call
+  free : (b : ℕ) → Call
+  realloc : (b n : ℕ) → Call
+  size : (b : ℕ) → Call
+  view : (b : ℕ) → Call
+  report : Call
+
+-- a store is of value `v`, at place `i` of block `b`
+pub data Event : Type 0 where
+  call : Call → Event
+  store : (b i v : ℕ) → Event
+
+-- what a library answers to a call on an arena's words, and the words that it leaves
+abbrev pub Library : Type 0
+Library = Call → List ℕ → Outcome
+
+-- the calls of this project; a view answers the words that it hands back
+abbrev pub ours : Library
+ours start a = startOn a
+ours (alloc n) a = allocOn a n
+ours (free b) a = freeOn a b
+ours (realloc b n) a = reallocOn a b n
+ours (size b) a = sizeOn a b
+ours (view b) a = record { answer = success (viewOn a b); words = a }
+ours report a = reportOn a

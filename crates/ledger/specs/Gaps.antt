@@ -1,0 +1,23 @@
+-- The gaps that ledger blocks and their headers leave in an arena of `n` words, computed from the ledger and `n` alone. Where two blocks meet, the gap has 0 words.
+use Prim.Native.Nat.{ℕ, _-_, _<_}
+use mathlib.Core.List.{List, [], _∷_}
+use Rattle.layout.specs.Numbers.{controlWords}
+use Rattle.ledger.specs.Ledger.{Ledger, begins, ends}
+
+-- the gap from word `c` up to the first of the blocks above it, or to the end of the arena
+abbrev pub gapTo : ℕ → ℕ → Ledger → ℕ
+gapTo n c [] = n - c
+gapTo n c (e ∷ es) = begins e - c
+
+-- that gap, and the one above each block
+abbrev pub gapsFrom : ℕ → ℕ → Ledger → List ℕ
+gapsFrom n c [] = gapTo n c [] ∷ []
+gapsFrom n c (e ∷ es) = gapTo n c (e ∷ es) ∷ gapsFrom n (ends e) es
+
+abbrev pub gaps : ℕ → Ledger → List ℕ
+gaps n ledger = gapsFrom n controlWords ledger
+
+-- every one of them is shorter than `need`
+abbrev pub EachShorter : ℕ → List ℕ → Type 0
+EachShorter need [] = Unit {0}
+EachShorter need (g ∷ gs) = (g < need) × EachShorter need gs

@@ -1,0 +1,6 @@
+pub mod Events
+pub mod Ledger
+pub mod Gaps
+pub mod Runs
+pub mod Holders
+pub mod Demands

@@ -1,0 +1,34 @@
+-- Runs: an arena that is started, and then any number of events.
+use Prim.Native.Nat.{ℕ, _+_, _<_}
+use mathlib.Core.Path.{_≡_}
+use mathlib.Core.Bool.{true}
+use mathlib.Core.List.{List, []}
+use lib.ListN.{length, set}
+use Rattle.layout.specs.Numbers.{lawful}
+use Rattle.arena.specs.Answers.{Outcome}
+use Rattle.ledger.specs.Events.{Call, start, Event, call, store, Library}
+use Rattle.ledger.specs.Ledger.{Ledger, ledgerAfter, Held}
+
+pub record State : Type 0 where
+  pub words : List ℕ
+  pub ledger : Ledger
+
+-- a value that fits a word is below this number
+abbrev pub wordValues : ℕ
+wordValues = 4294967296
+
+-- every call is allowed, also one that will be refused; a holder stores only into a block that the ledger has, below its granted words, a value that fits a word
+abbrev pub Allowed : Event → Ledger → Type 0
+Allowed (call c) ledger = Unit {0}
+Allowed (store b i v) ledger = Held ledger b i × (v < wordValues)
+
+module _ (library : Library) where
+  abbrev pub after : Event → State → State
+  after (call c) s =
+      record { words = library c (s .words) .words; ledger = ledgerAfter c (library c (s .words) .answer) (s .ledger) }
+  after (store b i v) s = record { words = set (s .words) (b + i) v; ledger = s .ledger }
+
+  -- a run in an arena of `n` words, up to a state: it begins with any words, started
+  pub data Run (n : ℕ) : State → Type 0 where
+    begun : (a : List ℕ) → length a ≡ n → lawful n ≡ true → Run n (record { words = library start a .words; ledger = [] })
+    next : {s : State} → Run n s → (event : Event) → Allowed event (s .ledger) → Run n (after event s)
