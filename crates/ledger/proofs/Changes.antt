@@ -29,6 +29,13 @@ trim-blocks need s d = go (splits need s)
     go true = refl
     go false = refl
 
+pub trim-total : (need s : ℕ) → need ≤ s → total (trim need s) ≡ s
+trim-total need s enough = go (splits need s)
+  where
+    go : (split : Bool) → total (cond split (live need ∷ free (s - need) ∷ []) (live s ∷ [])) ≡ s
+    go true = omega arith
+    go false = omega arith
+
 -- ---- a middle that is replaced: it lies between the words `d` and `e`, and `pre` and `post` stay
 
 module _ (pre post : List Chunk) (z : Sizes pre) (y : Sizes post) (d e : ℕ) (at : d ≡ firstChunk + total pre) where

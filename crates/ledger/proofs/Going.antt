@@ -1,0 +1,132 @@
+-- How a call goes: the ledger agrees with the words that it leaves, and the blocks that go on keep their words.
+use mathlib.Core.Path.{_≡_, refl, sym, ap, _∙_}
+use mathlib.Core.Logic.{_≢_, _⊎_, inl, inr}
+use mathlib.Core.Bool.{Bool, true, false, cond}
+use mathlib.Core.List.{List, [], _∷_, _++_}
+use Prim.Native.Nat.{ℕ, _+_, _-_, _≤_, _<_}
+use native.Mathlib.Omega.{arith}
+use lib.Dec.{eqb}
+use lib.ListN.{length, getD}
+use borrow.Author.Tests.{eqb-true, eqb-false, ne-eqb}
+use Rattle.layout.specs.Numbers.{firstChunk, headerWords, need}
+use Rattle.layout.specs.Chunks.{Chunk, free as gap, live, total, written}
+use Rattle.layout.specs.Walk.{sound, chunksOf}
+use Rattle.layout.specs.Reasons.{number}
+use Rattle.layout.specs.declared.Reason.{Reason}
+use Rattle.layout.proofs.Holds.{Sizes, Lawful, sizes-split}
+use Rattle.layout.proofs.Inside.{inside-kept}
+use Rattle.layout.proofs.Reasons.{number-positive}
+use Rattle.layout.proofs.Round.{sound-chunks, written-sound}
+use Rattle.layout.proofs.Written.{length-written}
+use Rattle.arena.specs.Answers.{Outcome, success}
+use Rattle.arena.specs.Rules.{taken, cut, trim, joined}
+use Rattle.arena.specs.Inside.Places.{Needed}
+use Rattle.arena.proofs.Blocks.{BlockAt}
+use Rattle.arena.proofs.Cases.{Case, refuses, does}
+use Rattle.arena.proofs.Taking.{cut-lawful}
+use Rattle.arena.proofs.Moving.{cut-numbers}
+use Rattle.arena.proofs.Keeping.{chunks-lawful, freed-lawful, trimmed-lawful}
+use Rattle.ledger.specs.Ledger.{Entry, Ledger, enter, strike, Listed, Unlisted}
+use Rattle.ledger.proofs.Blocks.{entryAt, blocksFrom, blocks-joined, Chunked, chunked, listed-split}
+use Rattle.ledger.proofs.Changes.{cut-blocks, trim-blocks, trim-total, enters, leaves, replaces, fresh}
+use Rattle.ledger.proofs.Agreeing.{Agrees}
+
+-- the words `a` with `ledger` become the words `after` with `then`; a block goes on under the number that `renamed` gives
+pub record Goes (n : ℕ) (a : List ℕ) (ledger : Ledger) (renamed : ℕ → ℕ) (after : List ℕ) (then : Ledger) : Type 0 where
+  pub agrees : Agrees n after then
+  pub keeps : (e f : Entry) → Listed ledger e → Listed then f → f .block ≡ renamed (e .block) → (i : ℕ) → i < e .granted → i < f .granted
+      → getD after (f .block + i) 0 ≡ getD a (e .block + i) 0
+
+-- ---- chunks that are written: a block among them keeps all its words
+
+pub written-listed : (ks : List Chunk) (a : List ℕ) → Sizes ks → (f : Entry) → Listed (blocksFrom firstChunk ks) f → (i : ℕ) → i < f .granted
+    → getD (written ks a) (f .block + i) 0 ≡ getD a (f .block + i) 0
+written-listed ks a z f l i h =
+    let (below, above, q) = listed-split (blocksFrom firstChunk ks) f l in
+    let r = chunked firstChunk ks below f above q in
+    let b : f .block ≡ firstChunk + total (r .pre) + headerWords = ap (λ (g : Entry). g .block) (r .is) in
+    let s : f .granted ≡ r .s - headerWords = ap (λ (g : Entry). g .granted) (r .is) in
+    rw (r .same) (inside-kept a (r .pre) (live (r .s)) (r .post) (firstChunk + total (r .pre)) (f .block + i) (rw (r .same) at z) refl (omega arith) (omega arith))
+
+pub written-goes : (n : ℕ) (a : List ℕ) (ledger : Ledger) (renamed : ℕ → ℕ) (ks : List Chunk) (then : Ledger) → length a ≡ n → Lawful (length a) ks
+    → then ≡ blocksFrom firstChunk ks → ((b : ℕ) → renamed b ≡ b) → Goes n a ledger renamed (written ks a) then
+written-goes n a ledger renamed ks then long l are same =
+    let w = written-sound ks a l in
+    record {
+      agrees = record { is-sound = w .0; long = length-written ks a ∙ long; lists = are ∙ ap (blocksFrom firstChunk) (sym (w .1)) };
+      keeps = λ e f m k p i h j.
+          written-listed ks a (l .sizes) f (rw are at k) i j ∙ ap (λ (b : ℕ). getD a (b + i) 0) (p ∙ same (e .block));
+    }
+
+-- words and ledger stay
+pub stay-goes : (n : ℕ) (a : List ℕ) (ledger : Ledger) → Agrees n a ledger → Goes n a ledger (λ b. b) a ledger
+stay-goes n a ledger g = record { agrees = g; keeps = λ e f m k p i h j. ap (λ (b : ℕ). getD a (b + i) 0) p }
+
+-- ---- a block of a sound arena, between `pre` and `post`
+
+module _ (n : ℕ) (a : List ℕ) (ledger : Ledger) (g : Agrees n a ledger) where
+  -- the ledger, where the arena has these chunks
+  lists-as : (ks : List Chunk) → chunksOf a ≡ ks → ledger ≡ blocksFrom firstChunk ks
+  lists-as ks same = g .lists ∙ ap (blocksFrom firstChunk) same
+
+  sizes-as : (pre mid post : List Chunk) → chunksOf a ≡ pre ++ (mid ++ post) → Sizes pre × Sizes mid × Sizes post
+  sizes-as pre mid post same =
+      let z = sizes-split pre (mid ++ post) (rw same at (sound-chunks a (g .is-sound) .law .sizes)) in
+      let y = sizes-split mid post (z .1) in
+      (z .0, y .0, y .1)
+
+  -- it is freed
+  pub freed-goes : (b : ℕ) (pre : List Chunk) (s : ℕ) (post : List Chunk) → BlockAt a b pre s post
+      → Goes n a ledger (λ c. c) (written (joined (pre ++ gap s ∷ post)) a) (strike b ledger)
+  freed-goes b pre s post is =
+      let d : ℕ = firstChunk + total pre in
+      let (y, z, x) = sizes-as pre (live s ∷ []) post (is .same) in
+      let l = leaves pre post y x d (d + s) refl (live s ∷ []) (gap s ∷ []) (entryAt d s) (omega arith) (omega arith) refl refl (omega arith) (omega (arith, z .1)) in
+      written-goes n a ledger (λ c. c) (joined (pre ++ gap s ∷ post)) (strike b ledger) (g .long) (freed-lawful a (g .is-sound) pre s post (is .same))
+      (rw (← is .number-is) (ap (strike (d + headerWords)) (lists-as (pre ++ live s ∷ post) (is .same)) ∙ l ∙ sym (blocks-joined firstChunk (pre ++ gap s ∷ post)))) (λ c. refl)
+
+  -- it keeps a need of the words of some chunks, `old`, of which it is the first
+  pub stays-goes : (b : ℕ) (pre : List Chunk) (s : ℕ) (rest post : List Chunk) (words needed : ℕ) (renamed : ℕ → ℕ) → BlockAt a b pre s (rest ++ post) → blocksFrom (firstChunk + total pre + s) rest ≡ []
+      → words ≡ s + total rest → Needed needed → needed ≤ words → ((c : ℕ) → renamed c ≡ c)
+      → Goes n a ledger renamed (written (joined (pre ++ (trim needed words ++ post))) a) (enter (record { block = b; granted = taken needed words - headerWords }) (strike b ledger))
+  stays-goes b pre s rest post words needed renamed is none all nd enough names =
+      let d : ℕ = firstChunk + total pre in
+      let (y, z, x) = sizes-as pre (live s ∷ rest) post (is .same) in
+      let one : blocksFrom d (live s ∷ rest) ≡ entryAt d s ∷ [] = ap (_∷_ (entryAt d s)) none in
+      let l = replaces pre post y x d (d + words) refl (live s ∷ rest) (trim needed words) (entryAt d s) (entryAt d (taken needed words))
+      (omega arith) (omega (arith, trim-total needed words enough)) one (trim-blocks needed words d) (omega arith) (omega (arith, z .1)) (omega arith) (omega (arith, z .1)) in
+      written-goes n a ledger renamed (joined (pre ++ (trim needed words ++ post))) _ (g .long)
+      (trimmed-lawful a (g .is-sound) pre (live s ∷ rest) post words needed (is .same) (sym all) nd enough)
+      (rw (← is .number-is)
+      (ap (λ (es : Ledger). enter (entryAt d (taken needed words)) (strike (d + headerWords) es)) (lists-as (pre ++ (live s ∷ rest ++ post)) (is .same)) ∙ l ∙ sym (blocks-joined firstChunk (pre ++ (trim needed words ++ post))))) names
+
+  -- ---- a need is granted from any free chunk that fits, between `pre` and `post`
+
+  module _ (pre : List Chunk) (s : ℕ) (post : List Chunk) (needed : ℕ) (same : chunksOf a ≡ pre ++ gap s ∷ post) (nd : Needed needed) (enough : needed ≤ s) where
+    -- the new block
+    abbrev pub newEntry : Entry
+    newEntry = entryAt (firstChunk + total pre + (s - taken needed s)) (taken needed s)
+
+    pub granted-lists : enter newEntry ledger ≡ blocksFrom firstChunk (pre ++ (cut needed s ++ post))
+    granted-lists =
+        let d : ℕ = firstChunk + total pre in
+        let (y, z, x) = sizes-as pre (gap s ∷ []) post same in
+        let c = cut-numbers needed s enough in
+        ap (enter newEntry) (lists-as (pre ++ gap s ∷ post) same)
+        ∙ enters pre post y x d (d + s) refl (gap s ∷ []) (cut needed s) newEntry (omega arith) (omega (arith, c .cut-total)) refl (cut-blocks needed s d) (omega arith)
+        (omega (arith, c .enough, c .within, nd .least))
+
+    -- no block of the ledger has its number
+    pub granted-fresh : Unlisted ledger (newEntry .block)
+    granted-fresh f l =
+        let d : ℕ = firstChunk + total pre in
+        let (y, z, x) = sizes-as pre (gap s ∷ []) post same in
+        let c = cut-numbers needed s enough in
+        fresh pre post y x d (d + s) refl (gap s ∷ []) (newEntry .block) (omega arith) refl (omega arith) (omega (arith, c .enough, c .within, nd .least)) f
+        (rw (lists-as (pre ++ gap s ∷ post) same) at l)
+
+    pub granted-lawful : Lawful (length a) (pre ++ (cut needed s ++ post))
+    granted-lawful = cut-lawful (length a) needed pre s post (chunks-lawful a (g .is-sound) (pre ++ gap s ∷ post) same) nd enough
+
+    pub granted-goes : Goes n a ledger (λ c. c) (written (pre ++ (cut needed s ++ post)) a) (enter newEntry ledger)
+    granted-goes = written-goes n a ledger (λ c. c) (pre ++ (cut needed s ++ post)) (enter newEntry ledger) (g .long) granted-lawful granted-lists (λ c. refl)

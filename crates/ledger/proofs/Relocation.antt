@@ -1,0 +1,119 @@
+-- A block that moves: the new block is granted, the words are copied, the old block is freed; the block goes on under the new number with its words.
+use mathlib.Core.Path.{_≡_, refl, sym, ap, _∙_}
+use mathlib.Core.Logic.{_≢_, _⊎_, inl, inr}
+use mathlib.Core.Bool.{Bool, true, false, cond}
+use mathlib.Core.List.{List, _∷_, _++_}
+use Prim.Native.Nat.{ℕ, _+_, _-_, _≤_, _<_}
+use native.Mathlib.Omega.{arith}
+use lib.Dec.{eqb}
+use lib.ListN.{getD}
+use borrow.Author.Tests.{eqb-true, eqb-false}
+use Rattle.layout.specs.Numbers.{firstChunk, headerWords}
+use Rattle.layout.specs.Chunks.{Chunk, free, live, total, written}
+use Rattle.layout.specs.Walk.{chunksOf}
+use Rattle.layout.proofs.Written.{length-written}
+use Rattle.arena.specs.Spots.{held}
+use Rattle.arena.specs.Rules.{cut, joined, copied, released}
+use Rattle.arena.specs.Inside.Places.{Needed}
+use Rattle.arena.proofs.Blocks.{BlockAt}
+use Rattle.arena.proofs.Copying.{length-copied, copied-other, copied-there}
+use Rattle.arena.proofs.Moving.{cut-numbers}
+use Rattle.arena.proofs.Relocating.{Relocated}
+use Rattle.ledger.specs.Ledger.{Entry, Ledger, enter, strike, Listed, ends}
+use Rattle.ledger.proofs.Blocks.{blocksFrom, Laid, blocks-laid}
+use Rattle.ledger.proofs.Entries.{enter-listed, listed-enter, listed-struck, laid-listed, laid-order, strike-enter}
+use Rattle.ledger.proofs.Agreeing.{Agrees, agrees-laid, block-listed}
+use Rattle.ledger.proofs.Going.{Goes, written-listed, freed-goes, newEntry, granted-lists, granted-fresh, granted-lawful}
+
+module _ (n : ℕ) (a : List ℕ) (ledger : Ledger) (g : Agrees n a ledger)
+    (b : ℕ) (pre : List Chunk) (s : ℕ) (post : List Chunk) (is : BlockAt a b pre s post)
+    (before : List Chunk) (t : ℕ) (after : List Chunk) (needed : ℕ) (same : chunksOf a ≡ before ++ free t ∷ after) (nd : Needed needed) (enough : needed ≤ t) (longer : s < needed) where
+  abbrev new : Entry
+  new = newEntry n a ledger g before t after needed same nd enough
+
+  abbrev granted : List Chunk
+  granted = before ++ (cut needed t ++ after)
+
+  -- the words once the need was granted and the words were copied
+  abbrev there : List ℕ
+  there = copied b (new .block) (s - headerWords) (written granted a)
+
+  abbrev both : Ledger
+  both = enter new ledger
+
+  both-lists : both ≡ blocksFrom firstChunk granted
+  both-lists = granted-lists n a ledger g before t after needed same nd enough
+
+  both-laid : Laid firstChunk (firstChunk + total granted) both
+  both-laid = rw both-lists (blocks-laid firstChunk granted (firstChunk + total granted) refl (granted-lawful n a ledger g before t after needed same nd enough .sizes))
+
+  -- a word of a block of both, before the copy
+  before-copy : (e : Entry) → Listed both e → (i : ℕ) → i < e .granted → getD (written granted a) (e .block + i) 0 ≡ getD a (e .block + i) 0
+  before-copy e l = written-listed granted a (granted-lawful n a ledger g before t after needed same nd enough .sizes) e (rw both-lists at l)
+
+  module _ (r : Relocated there b s granted) where
+    both-agree : Agrees n there both
+    both-agree =
+        record {
+          is-sound = r .is-sound;
+          long = length-copied b (new .block) (written granted a) (s - headerWords) ∙ length-written granted a ∙ g .long;
+          lists = both-lists ∙ ap (blocksFrom firstChunk) (sym (r .chunks));
+        }
+
+    -- the old block is freed
+    freed : Goes n there both (λ c. c) (written (joined (r .pre ++ free s ∷ r .post)) there) (strike b both)
+    freed = freed-goes n there both both-agree b (r .pre) s (r .post) (r .old)
+
+    old-listed : Listed ledger (record { block = b; granted = s - headerWords })
+    old-listed = block-listed n a ledger g b pre s post is
+
+    -- the new block is another
+    new-other : new .block ≢ b
+    new-other q = granted-fresh n a ledger g before t after needed same nd enough _ old-listed (sym q)
+
+    -- the words that were copied have room in it
+    room : s - headerWords ≤ new .granted
+    room = omega (arith, cut-numbers needed t enough .enough)
+
+    -- the old block has all its words in the new one
+    copied-new : (e : Entry) → Listed ledger e → e .block ≡ b → (i : ℕ) → i < e .granted → getD there (new .block + i) 0 ≡ getD a (e .block + i) 0
+    copied-new e l q i h =
+        let w = granted-lawful n a ledger g before t after needed same nd enough in
+        let m : ends new ≤ firstChunk + total granted = laid-listed firstChunk (firstChunk + total granted) both new both-laid (enter-listed new ledger) .1 in
+        let f : e .granted ≡ s - headerWords = all (laid-order firstChunk n ledger e _ (agrees-laid n a ledger g) l old-listed) in
+        copied-there b (new .block) (written granted a) (s - headerWords) i (omega arith) (rw length-written (omega (arith, w .fills, room)))
+        ∙ ap (λ (c : ℕ). getD (written granted a) (c + i) 0) (sym q)
+        ∙ before-copy e (listed-enter new ledger e l) i h
+      where
+        all : (e ≡ record { block = b; granted = s - headerWords }) ⊎ ((ends e + headerWords ≤ b) ⊎ (b + (s - headerWords) + headerWords ≤ e .block)) → e .granted ≡ s - headerWords
+        all (inl p) = ap (λ (f : Entry). f .granted) p
+        all (inr (inl p)) = absurd (omega arith)
+        all (inr (inr p)) = absurd (omega arith)
+
+    -- every other block is left alone
+    copied-beside : (f : Entry) → Listed both f → f .block ≢ new .block → (i : ℕ) → i < f .granted → getD there (f .block + i) 0 ≡ getD a (f .block + i) 0
+    copied-beside f l q i h =
+        copied-other b (new .block) (written granted a) (s - headerWords) (f .block + i) (beside (laid-order firstChunk (firstChunk + total granted) both f new both-laid l (enter-listed new ledger)))
+        ∙ before-copy f l i h
+      where
+        beside : (f ≡ new) ⊎ ((ends f + headerWords ≤ new .block) ⊎ (ends new + headerWords ≤ f .block)) → (f .block + i < new .block) ⊎ (new .block + (s - headerWords) ≤ f .block + i)
+        beside (inl p) = absurd (q (ap (λ (e : Entry). e .block) p))
+        beside (inr (inl p)) = inl (omega arith)
+        beside (inr (inr p)) = inr (omega (arith, room))
+
+    -- a block that goes on keeps its words, up to the free of the old one
+    carried-on : (e f : Entry) → Listed ledger e → Listed both f → (moved : Bool) → eqb (e .block) b ≡ moved → f .block ≡ cond moved (new .block) (e .block)
+        → (i : ℕ) → i < e .granted → i < f .granted → getD there (f .block + i) 0 ≡ getD a (e .block + i) 0
+    carried-on e f l m true q p i h j = ap (λ (c : ℕ). getD there (c + i) 0) p ∙ copied-new e l (eqb-true (e .block) b q) i h
+    carried-on e f l m false q p i h j =
+        copied-beside f m (λ u. granted-fresh n a ledger g before t after needed same nd enough e l (sym p ∙ u)) i j
+        ∙ ap (λ (c : ℕ). getD a (c + i) 0) p
+
+    pub moved-goes : Goes n a ledger (λ c. cond (eqb c b) (new .block) c) (written (released (held b granted)) there) (enter new (strike b ledger))
+    moved-goes =
+        rw (r .leaves, ← strike-enter b new new-other firstChunk n ledger (agrees-laid n a ledger g))
+        (record {
+          agrees = freed .agrees;
+          keeps = λ e f l m p i h j.
+              freed .keeps f f (listed-struck b both f m .1) m refl i j j ∙ carried-on e f l (listed-struck b both f m .1) (eqb (e .block) b) refl p i h j;
+        })
