@@ -1,16 +1,18 @@
 -- A ledger agrees with an arena: it has the arena's live blocks. All that demand 3 says of one state follows from this.
 use mathlib.Core.Path.{_≡_, refl, sym, ap, _∙_}
+use mathlib.Core.Logic.{_↔_}
 use mathlib.Core.Bool.{true}
-use mathlib.Core.List.{List, _∷_}
+use mathlib.Core.List.{List, _∷_, _++_}
 use Prim.Native.Nat.{ℕ, _+_, _-_}
 use lib.ListN.{length}
 use Rattle.layout.specs.Numbers.{firstChunk, headerWords}
 use Rattle.layout.specs.Chunks.{Chunk, live, total}
 use Rattle.layout.specs.Walk.{sound, chunksOf}
+use Rattle.layout.proofs.Holds.{Lawful}
 use Rattle.layout.proofs.Round.{sound-chunks}
-use Rattle.arena.proofs.Blocks.{BlockAt}
-use Rattle.ledger.specs.Ledger.{Ledger, Listed}
-use Rattle.ledger.proofs.Blocks.{entryAt, blocksFrom, blocksOf, blocks-append, Laid, blocks-laid, listed-at}
+use Rattle.arena.proofs.Blocks.{BlockAt, NoBlock}
+use Rattle.ledger.specs.Ledger.{Entry, Ledger, Listed, Unlisted}
+use Rattle.ledger.proofs.Blocks.{entryAt, blocksFrom, blocksOf, blocks-append, Laid, blocks-laid, Chunked, chunked, listed-at, listed-split}
 
 -- the words `a` are a sound arena of `n` words, and `ledger` has its live blocks
 pub record Agrees (n : ℕ) (a : List ℕ) (ledger : Ledger) : Type 0 where
@@ -30,3 +32,37 @@ pub block-listed : (n : ℕ) (a : List ℕ) (ledger : Ledger) → Agrees n a led
 block-listed n a ledger g b pre s post is =
     let q = g .lists ∙ ap (blocksFrom firstChunk) (is .same) ∙ blocks-append firstChunk pre (live s ∷ post) (firstChunk + total pre) refl in
     rw (← is .number-is, q) (listed-at (blocksFrom firstChunk pre) (entryAt (firstChunk + total pre) s) (blocksFrom (firstChunk + total pre + s) post))
+
+-- ---- an entry of the ledger is a block of the arena
+
+-- entry `e` is that of the live chunk of `s` words between `pre` and `post`
+pub record Block (a : List ℕ) (e : Entry) : Type 0 where
+  pub pre : List Chunk
+  pub s : ℕ
+  pub post : List Chunk
+  pub stands : BlockAt a (e .block) pre s post
+  pub granted-is : e .granted ≡ s - headerWords
+
+pub chunked-block : {a : List ℕ} {below above : Ledger} {e : Entry} (k : Chunked firstChunk (chunksOf a) below e above) → BlockAt a (e .block) (k .pre) (k .s) (k .post)
+chunked-block k = record { same = k .same; number-is = sym (ap (λ (f : Entry). f .block) (k .is)) }
+
+module _ (n : ℕ) (a : List ℕ) (ledger : Ledger) (g : Agrees n a ledger) where
+  pub agrees-lawful : Lawful n (chunksOf a)
+  agrees-lawful = rw (g .long) at (sound-chunks a (g .is-sound) .law)
+
+  -- an entry between others is a live chunk between others
+  pub agrees-chunked : (below : Ledger) (e : Entry) (above : Ledger) → ledger ≡ below ++ e ∷ above → Chunked firstChunk (chunksOf a) below e above
+  agrees-chunked below e above q = chunked firstChunk (chunksOf a) below e above (sym (g .lists) ∙ q)
+
+  pub listed-block : (e : Entry) → Listed ledger e → Block a e
+  listed-block e l =
+      let (below, above, q) = listed-split ledger e l in
+      let k = agrees-chunked below e above q in
+      record { pre = k .pre; s = k .s; post = k .post; stands = chunked-block k; granted-is = ap (λ (f : Entry). f .granted) (k .is) }
+
+  -- a number that no entry has is no block's, and the other way round
+  pub unlisted-block : (b : ℕ) → NoBlock a b ↔ Unlisted ledger b
+  unlisted-block b = (
+    λ none e l q. let k = listed-block e l in none (k .pre) (k .s) (k .post) (record { same = k .stands .same; number-is = k .stands .number-is ∙ q }),
+    λ un pre s post is. un (record { block = b; granted = s - headerWords }) (block-listed n a ledger g b pre s post is) refl,
+  )

@@ -1,6 +1,13 @@
 pub mod Blocks
 pub mod Entries
 pub mod Changes
+pub mod Gaps
 pub mod Agreeing
+pub mod Rooms
+pub mod Telling
 pub mod Going
 pub mod Relocation
+pub mod Calls
+pub mod Stores
+pub mod Examples
+pub mod Useless

@@ -1,0 +1,197 @@
+-- Runs that are there, computed: that of document 01's table, and its move.
+use Prim.Native.Nat.{ℕ}
+use mathlib.Core.Path.{_≡_, refl}
+use mathlib.Core.Logic.{inl}
+use mathlib.Core.Option.{none, some}
+use mathlib.Core.List.{List, [], _∷_, _++_, map}
+use native.Mathlib.Omega.{arith}
+use lib.ListN.{set, replicate, take, drop}
+use Rattle.layout.specs.Chunks.{free as freeChunk, live as liveChunk, header, write, written}
+use Rattle.layout.specs.Walk.{meet, walk, walkFrom, walked, sound, chunksOf}
+use Rattle.layout.specs.Reasons.{arenaGate, requestGate}
+use Rattle.arena.specs.Answers.{Answer, success}
+use Rattle.arena.specs.Spots.{lowest}
+use Rattle.arena.specs.Rules.{joined, copied}
+use Rattle.arena.specs.Calls.{startOn, allocBy, freeOn, reallocOn, reportOn}
+use Rattle.ledger.specs.Events.{Call, start, alloc, free, realloc, report, Event, call, store, ours}
+use Rattle.ledger.specs.Ledger.{Entry, enter, strike}
+use Rattle.ledger.specs.Runs.{State, Allowed, after, Run, begun, next}
+use Rattle.ledger.specs.Holders.{lastStored}
+
+-- ---- how a run is played
+
+-- the state after events
+abbrev pub afterAll : List Event → State → State
+afterAll [] s = s
+afterAll (event ∷ events) s = afterAll events (after ours event s)
+
+-- each event is allowed when its turn comes
+abbrev pub AllAllowed : List Event → State → Type 0
+AllAllowed [] s = Unit {0}
+AllAllowed (event ∷ events) s = Allowed event (s .ledger) × AllAllowed events (after ours event s)
+
+-- a run goes on with events
+abbrev pub play : {n : ℕ} {s : State} → Run ours n s → (events : List Event) → AllAllowed events s → Run ours n (afterAll events s)
+play run [] allowed = run
+play run (event ∷ events) allowed = play (next run event (allowed .0)) events (allowed .1)
+
+-- what a run's calls answered, the start first
+abbrev pub answers : {n : ℕ} {s : State} → Run ours n s → List Answer
+answers (begun a long l) = ours start a .answer ∷ []
+answers (next {s} run (call c) allowed) = answers run ++ ours c (s .words) .answer ∷ []
+answers (next {s} run (store b i v) allowed) = answers run
+
+-- calls are always allowed
+pub calls-allowed : (calls : List Call) (s : State) → AllAllowed (map call calls) s
+calls-allowed [] s = tt
+calls-allowed (c ∷ cs) s = (tt, calls-allowed cs (after ours (call c) s))
+
+-- a block and its granted words
+abbrev pub entry : ℕ → ℕ → Entry
+entry block granted = record { block = block; granted = granted }
+
+-- ---- the table of document 01
+
+-- a row: a call, then the code and the fields of its answer
+abbrev pub row : Call → ℕ → List ℕ → Call × Answer
+row c code values = (c, record { code = code; values = values })
+
+-- the rows after the start in which a call is made, each beside the document's own
+abbrev pub rows : List (Call × Answer)
+rows =
+    row (alloc 5) 0 (26 ∷ 6 ∷ [])  -- 020005: 0200001A0006
+    ∷ row (alloc 1) 0 (22 ∷ 2 ∷ [])  -- 020001: 020000160002
+    ∷ row (alloc 10) 0 (10 ∷ 10 ∷ [])  -- 02000A: 0200000A000A
+    ∷ row report 0 (6 ∷ 4 ∷ 3 ∷ 1 ∷ [])  -- 05: 05000006000400030001
+    ∷ row (free 22) 0 []  -- 030016: 0300
+    ∷ row (free 22) 3 []  -- 030016: 0303
+    ∷ row (alloc 4) 0 (4 ∷ 4 ∷ [])  -- 020004: 020000040004
+    ∷ row (realloc 10 13) 0 (10 ∷ 14 ∷ [])  -- 04000A000D: 0400000A000E
+    ∷ row report 0 (0 ∷ 0 ∷ 3 ∷ 0 ∷ [])  -- 05: 05000000000000030000
+    ∷ row (alloc 1) 6 (0 ∷ 0 ∷ [])  -- 020001: 020600000000
+    ∷ row (realloc 26 7) 6 (0 ∷ 0 ∷ [])  -- 04001A0007: 040600000000
+    ∷ row (free 10) 0 []  -- 03000A: 0300
+    ∷ row (alloc 11) 0 (10 ∷ 14 ∷ [])  -- 02000B: 0200000A000E
+    ∷ row (alloc 29) 5 (0 ∷ 0 ∷ [])  -- 02001D: 020500000000
+    ∷ row (alloc 0) 4 (0 ∷ 0 ∷ [])  -- 020000: 020400000000
+    ∷ []
+
+abbrev pub rowCalls : List Call
+rowCalls = map (λ (r : Call × Answer). r .0) rows
+
+abbrev pub rowAnswers : List Answer
+rowAnswers = map (λ (r : Call × Answer). r .1) rows
+
+-- an arena of 32 words, all zero, is started
+abbrev pub fresh : State
+fresh = record { words = ours start (replicate 32 0) .words; ledger = [] }
+
+abbrev pub freshRun : Run ours 32 fresh
+freshRun = begun (replicate 32 0) refl refl
+
+abbrev pub table : Run ours 32 (afterAll (map call rowCalls) fresh)
+table = play freshRun (map call rowCalls) (calls-allowed rowCalls fresh)
+
+-- 010020: 0100, and then what the rows say
+pub table-answers : answers table ≡ success [] ∷ rowAnswers
+unfolding startOn allocBy freeOn reallocOn reportOn arenaGate requestGate sound chunksOf walked walkFrom walk meet lowest joined copied written write header
+table-answers = refl
+
+-- three blocks are held at the end
+pub table-ledger : afterAll (map call rowCalls) fresh .ledger ≡ entry 4 4 ∷ entry 10 14 ∷ entry 26 6 ∷ []
+unfolding startOn allocBy freeOn reallocOn reportOn arenaGate requestGate sound chunksOf walked walkFrom walk meet lowest joined copied written write header enter strike
+table-ledger = refl
+
+-- ---- the move of document 01, where the holder stores two words first
+
+-- block 26 holds a 5 and a 7
+abbrev pub storedWords : List ℕ
+storedWords =
+    32 ∷ 2 ∷ 22 ∷ 0 ∷ 0 ∷ 0 ∷ 0 ∷ 0
+    ∷ 0 ∷ 0 ∷ 0 ∷ 0 ∷ 0 ∷ 0 ∷ 0 ∷ 0
+    ∷ 0 ∷ 0 ∷ 0 ∷ 0 ∷ 0 ∷ 0 ∷ 0 ∷ 0
+    ∷ 4 ∷ 4294967295 ∷ 5 ∷ 7 ∷ 4 ∷ 4294967295 ∷ 0 ∷ 0
+    ∷ []
+
+unfoldable pub stored : Run ours 32 (record { words = storedWords; ledger = entry 26 2 ∷ entry 30 2 ∷ [] })
+unfolding startOn allocBy freeOn reallocOn arenaGate requestGate sound chunksOf walked walkFrom walk meet lowest joined copied written write header enter
+stored =
+    play freshRun (call (alloc 2) ∷ call (alloc 2) ∷ store 26 0 5 ∷ store 26 1 7 ∷ [])
+    (tt, (tt, (((entry 26 2, inl refl, refl, omega arith), omega arith), (((entry 26 2, inl refl, refl, omega arith), omega arith), tt))))
+
+-- words 18 and 19 are those of 26 and 27
+abbrev pub movedWords : List ℕ
+movedWords =
+    32 ∷ 2 ∷ 14 ∷ 24 ∷ 0 ∷ 0 ∷ 0 ∷ 0
+    ∷ 0 ∷ 0 ∷ 0 ∷ 0 ∷ 0 ∷ 0 ∷ 0 ∷ 0
+    ∷ 8 ∷ 4294967295 ∷ 5 ∷ 7 ∷ 0 ∷ 0 ∷ 0 ∷ 0
+    ∷ 4 ∷ 0 ∷ 5 ∷ 7 ∷ 4 ∷ 4294967295 ∷ 0 ∷ 0
+    ∷ []
+
+unfoldable pub moved : Run ours 32 (record { words = movedWords; ledger = entry 18 6 ∷ entry 30 2 ∷ [] })
+unfolding startOn allocBy freeOn reallocOn arenaGate requestGate sound chunksOf walked walkFrom walk meet lowest joined copied written write header enter strike
+moved = play stored (call (realloc 26 6) ∷ []) (tt, tt)
+
+-- alloc 2 gives 30, alloc 2 gives 26, realloc 26 to 6 gives block 18 with 6 granted
+pub move-answers : answers moved ≡ success [] ∷ success (30 ∷ 2 ∷ []) ∷ success (26 ∷ 2 ∷ []) ∷ success (18 ∷ 6 ∷ []) ∷ []
+unfolding startOn allocBy freeOn reallocOn arenaGate requestGate sound chunksOf walked walkFrom walk meet lowest joined copied written write header stored moved
+move-answers = refl
+
+pub move-words : take 2 (drop 18 movedWords) ≡ take 2 (drop 26 storedWords)
+move-words = refl
+
+-- free chunks are 2 (size 14) and 24 (size 4)
+pub move-chunks : chunksOf movedWords ≡ freeChunk 14 ∷ liveChunk 8 ∷ freeChunk 4 ∷ liveChunk 4 ∷ []
+unfolding chunksOf walked walkFrom walk meet
+move-chunks = refl
+
+-- what was stored in block 26 is noted under block 18
+pub move-notes : (lastStored ours moved 18 0 ≡ some 5) × (lastStored ours moved 18 1 ≡ some 7) × (lastStored ours moved 26 0 ≡ none) × (lastStored ours moved 26 1 ≡ none)
+unfolding startOn allocBy freeOn reallocOn arenaGate requestGate sound chunksOf walked walkFrom walk meet lowest joined copied written write header stored moved lastStored
+move-notes = (refl, refl, refl, refl)
+
+-- ---- then the last word of the block is stored, the block is cut, and at last freed
+
+unfoldable pub filled : Run ours 32 (record { words = set movedWords 23 9; ledger = entry 18 6 ∷ entry 30 2 ∷ [] })
+filled = play moved (store 18 5 9 ∷ []) (((entry 18 6, inl refl, refl, omega arith), omega arith), tt)
+
+-- the tail is merged with the free chunk above it
+abbrev pub cutWords : List ℕ
+cutWords =
+    32 ∷ 2 ∷ 14 ∷ 20 ∷ 0 ∷ 0 ∷ 0 ∷ 0
+    ∷ 0 ∷ 0 ∷ 0 ∷ 0 ∷ 0 ∷ 0 ∷ 0 ∷ 0
+    ∷ 4 ∷ 4294967295 ∷ 5 ∷ 7 ∷ 8 ∷ 0 ∷ 0 ∷ 9
+    ∷ 4 ∷ 0 ∷ 5 ∷ 7 ∷ 4 ∷ 4294967295 ∷ 0 ∷ 0
+    ∷ []
+
+unfoldable pub cut : Run ours 32 (record { words = cutWords; ledger = entry 18 2 ∷ entry 30 2 ∷ [] })
+unfolding startOn allocBy freeOn reallocOn arenaGate requestGate sound chunksOf walked walkFrom walk meet lowest joined copied written write header enter strike
+cut = play filled (call (realloc 18 1) ∷ []) (tt, tt)
+
+-- the block is merged with both its neighbours, and the headers that are swallowed stay
+abbrev pub freedWords : List ℕ
+freedWords =
+    32 ∷ 2 ∷ 26 ∷ 0 ∷ 0 ∷ 0 ∷ 0 ∷ 0
+    ∷ 0 ∷ 0 ∷ 0 ∷ 0 ∷ 0 ∷ 0 ∷ 0 ∷ 0
+    ∷ 4 ∷ 4294967295 ∷ 5 ∷ 7 ∷ 8 ∷ 0 ∷ 0 ∷ 9
+    ∷ 4 ∷ 0 ∷ 5 ∷ 7 ∷ 4 ∷ 4294967295 ∷ 0 ∷ 0
+    ∷ []
+
+unfoldable pub freed : Run ours 32 (record { words = freedWords; ledger = entry 30 2 ∷ [] })
+unfolding startOn allocBy freeOn reallocOn arenaGate requestGate sound chunksOf walked walkFrom walk meet lowest joined copied written write header strike
+freed = play cut (call (free 18) ∷ []) (tt, tt)
+
+-- the cut block has 2 words, and the free is done
+pub freed-answers : answers freed ≡ answers moved ++ success (18 ∷ 2 ∷ []) ∷ success [] ∷ []
+unfolding startOn allocBy freeOn reallocOn arenaGate requestGate sound chunksOf walked walkFrom walk meet lowest joined copied written write header stored moved filled cut freed
+freed-answers = refl
+
+-- the word that is cut off is noted no more, the others are
+pub cut-notes : (lastStored ours filled 18 5 ≡ some 9) × (lastStored ours cut 18 5 ≡ none) × (lastStored ours cut 18 0 ≡ some 5) × (lastStored ours cut 18 1 ≡ some 7)
+unfolding startOn allocBy freeOn reallocOn arenaGate requestGate sound chunksOf walked walkFrom walk meet lowest joined copied written write header stored moved filled cut lastStored
+cut-notes = (refl, refl, refl, refl)
+
+-- of a freed block nothing is noted
+pub freed-notes : (lastStored ours freed 18 0 ≡ none) × (lastStored ours freed 18 1 ≡ none)
+unfolding startOn allocBy freeOn reallocOn arenaGate requestGate sound chunksOf walked walkFrom walk meet lowest joined copied written write header freed lastStored
+freed-notes = (refl, refl)

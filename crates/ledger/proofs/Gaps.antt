@@ -1,0 +1,84 @@
+-- The gaps of a list of chunks: the runs of free words before, between and above its live blocks.
+use mathlib.Core.Path.{_≡_, refl, ap}
+use mathlib.Core.Logic.{_↔_}
+use mathlib.Core.Bool.{Bool, true, false, true≢false}
+use mathlib.Core.List.{List, [], _∷_, _++_}
+use Prim.Native.Nat.{ℕ, _+_, _-_, _≤_, _<_}
+use native.Mathlib.Omega.{arith}
+use Rattle.layout.specs.Numbers.{headerWords}
+use Rattle.layout.specs.Chunks.{Chunk, free, live, total}
+use Rattle.layout.proofs.Holds.{Sizes, Spaced}
+use Rattle.arena.specs.Inside.Rooms.{roomWords}
+use Rattle.arena.proofs.Room.{room-words}
+use Rattle.arena.proofs.Causes.{Short}
+use Rattle.ledger.specs.Gaps.{gapTo, gapsFrom, EachShorter}
+use Rattle.ledger.proofs.Blocks.{blocksFrom}
+
+-- the gaps of `ks`, where `p` free words stand right before them
+abbrev pub gapsIn : ℕ → List Chunk → List ℕ
+gapsIn p [] = p ∷ []
+gapsIn p (free s ∷ ks) = gapsIn (p + s) ks
+gapsIn p (live s ∷ ks) = p ∷ gapsIn 0 ks
+
+-- they are those that the blocks of `ks` leave from word `c` on, where `ks` begin at word `d`
+pub gaps-blocks : (n c d p : ℕ) (ks : List Chunk) → d ≡ c + p → n ≡ d + total ks → Sizes ks → gapsFrom n c (blocksFrom d ks) ≡ gapsIn p ks
+gaps-blocks n c d p [] e f z = ap (λ (m : ℕ). m ∷ []) (omega arith)
+gaps-blocks n c d p (free s ∷ ks) e f z = gaps-blocks n c (d + s) (p + s) ks (omega arith) (omega arith) (z .2)
+gaps-blocks n c d p (live s ∷ ks) e f z =
+    let own : d + headerWords - headerWords - c ≡ p = omega arith in
+    rw own (ap (_∷_ p) (gaps-blocks n (d + headerWords + (s - headerWords)) (d + s) 0 ks (omega (arith, z .1)) (omega arith) (z .2)))
+
+-- ---- a need and the gaps
+
+-- every free chunk among `ks` has fewer than `need` words
+abbrev pub FreeShorter : ℕ → List Chunk → Type 0
+FreeShorter need ks = (pre : List Chunk) (s : ℕ) (post : List Chunk) → ks ≡ pre ++ free s ∷ post → s < need
+
+free-shorter-tail : (need : ℕ) (k : Chunk) (ks : List Chunk) → FreeShorter need (k ∷ ks) → FreeShorter need ks
+free-shorter-tail need k ks f pre s post e = f (k ∷ pre) s post (ap (_∷_ k) e)
+
+-- the first gap has at least the words that stand before
+before-shorter : (need p : ℕ) (ks : List Chunk) → EachShorter need (gapsIn p ks) → p < need
+before-shorter need p [] h = h .0
+before-shorter need p (free s ∷ ks) h = omega (arith, before-shorter need (p + s) ks h)
+before-shorter need p (live s ∷ ks) h = h .0
+
+-- where every gap is shorter, so is every free chunk
+gaps-free : (need p : ℕ) (pre : List Chunk) (s : ℕ) (post : List Chunk) → EachShorter need (gapsIn p (pre ++ free s ∷ post)) → s < need
+gaps-free need p [] s post h = omega (arith, before-shorter need (p + s) post h)
+gaps-free need p (free t ∷ pre) s post h = gaps-free need (p + t) pre s post h
+gaps-free need p (live t ∷ pre) s post h = gaps-free need 0 pre s post (h .1)
+
+-- no two free chunks stand in a row, so where every free chunk is shorter, so is every gap
+free-gaps : (need p : ℕ) (joined : Bool) (ks : List Chunk) → Spaced joined ks → (joined ≡ false → p ≡ 0) → p < need → FreeShorter need ks → EachShorter need (gapsIn p ks)
+free-gaps need p joined [] h j l f = (l, tt)
+free-gaps need p joined (free s ∷ ks) h j l f =
+    free-gaps need (p + s) true ks (h .1) (λ e. absurd (true≢false e)) (omega (arith, j (h .0), f [] s ks refl)) (free-shorter-tail need (free s) ks f)
+free-gaps need p joined (live s ∷ ks) h j l f = (l, free-gaps need 0 false ks h (λ e. refl) (omega arith) (free-shorter-tail need (live s) ks f))
+
+pub gaps-shorter : (need : ℕ) (ks : List Chunk) → Spaced false ks → 1 ≤ need → EachShorter need (gapsIn 0 ks) ↔ FreeShorter need ks
+gaps-shorter need ks h one = (
+  λ l pre s post e. gaps-free need 0 pre s post (rw e at l),
+  free-gaps need 0 false ks h (λ e. refl) one,
+)
+
+-- ---- the gap right above a block of `s` words, which ends at word `c`, where `post` begin
+
+pub gap-above : (n c s : ℕ) (post : List Chunk) → n ≡ c + total post → Spaced false post → s + gapTo n c (blocksFrom c post) ≡ roomWords s post
+gap-above n c s [] e h = omega arith
+gap-above n c s (live t ∷ post) e h = omega arith
+gap-above n c s (free t ∷ []) e h = omega arith
+gap-above n c s (free t ∷ live u ∷ post) e h = omega arith
+gap-above n c s (free t ∷ free u ∷ post) e h = absurd (true≢false (h .1 .0))
+
+-- a chunk of `s` words is too short for a need, with a free chunk right after it too, exactly when its room is
+pub short-room : (s : ℕ) (post : List Chunk) (need : ℕ) → Short s post need ↔ (roomWords s post < need)
+short-room s post need = (
+  room post,
+  λ l. record { own = omega (arith, room-words s post); with-next = λ (t : ℕ) (rest : List Chunk) (e : post ≡ free t ∷ rest). rw e at l },
+)
+  where
+    room : (post : List Chunk) → Short s post need → roomWords s post < need
+    room [] l = l .own
+    room (live t ∷ post) l = l .own
+    room (free t ∷ post) l = l .with-next t post refl

@@ -1,0 +1,93 @@
+-- What a ledger that agrees with an arena shows: where its blocks lie, what they add up to, and what the answers tell of them.
+use mathlib.Core.Path.{_≡_, sym, ap, _∙_}
+use mathlib.Core.Logic.{_↔_, Iff·trans}
+use mathlib.Core.Bool.{true, false, true≢false}
+use mathlib.Core.List.{List, [], _∷_, _++_}
+use Prim.Native.Nat.{ℕ, _+_, _-_, _≤_}
+use native.Mathlib.Omega.{arith}
+use lib.ListN.{length, getD, take, drop}
+use Rattle.layout.specs.Numbers.{controlWords, firstChunk, headerWords, lawful}
+use Rattle.layout.specs.Walk.{sound, chunksOf}
+use Rattle.layout.specs.Reasons.{number}
+use Rattle.layout.specs.declared.Reason.the-variants.{Length, Damaged, NotABlock}
+use Rattle.arena.specs.Answers.{Answer, success}
+use Rattle.arena.specs.Rules.{freeWords, widest, liveBlocks, freeChunks}
+use Rattle.arena.specs.Calls.{sizeOn, viewOn, reportOn}
+use Rattle.arena.proofs.Gates.{sound-lawful, sound-gate}
+use Rattle.arena.proofs.Blocks.{NoBlock, block-held}
+use Rattle.arena.proofs.Reasons.{start-refused, alloc-refused, free-refused, realloc-refused, size-refused, report-refused}
+use Rattle.ledger.specs.Events.{Call, start, alloc, free, realloc, size, view, report, ours}
+use Rattle.ledger.specs.Ledger.{Entry, Ledger, Listed, Unlisted, begins, ends, Covers, heldWords}
+use Rattle.ledger.specs.Demands.{Tells}
+use Rattle.ledger.proofs.Blocks.{Laid, blocks-words, blocks-count, listed-at}
+use Rattle.ledger.proofs.Entries.{laid-listed}
+use Rattle.ledger.proofs.Agreeing.{Agrees, agrees-laid, agrees-lawful, listed-block, unlisted-block}
+
+-- the entries above another lie above its end
+laid-above : (c d : ℕ) (below : Ledger) (e : Entry) (above : Ledger) → Laid c d (below ++ e ∷ above) → Laid (ends e) d above
+laid-above c d [] e above h = h .1
+laid-above c d (f ∷ below) e above h = laid-above (ends f) d below e above (h .1)
+
+-- ---- the reasons that an arena itself gives
+
+-- a call that is refused for the arena's length has an unlawful one, and a call that is refused for damage has an arena that is not sound
+gate-refused : (a : List ℕ) (c : Call)
+    → (ours c a .answer .code ≡ number Length → lawful (length a) ≡ false) × (ours c a .answer .code ≡ number Damaged → sound a ≡ false)
+gate-refused a start = (λ e. start-refused a Length .0 e .1, λ e. absurd (omega (arith, ap number (start-refused a Damaged .0 e .0))))
+gate-refused a (alloc n) = (alloc-refused a n Length .0, λ e. alloc-refused a n Damaged .0 e .1)
+gate-refused a (free b) = (free-refused a b Length .0, λ e. free-refused a b Damaged .0 e .1)
+gate-refused a (realloc b n) = (realloc-refused a b n Length .0, λ e. realloc-refused a b n Damaged .0 e .1)
+gate-refused a (size b) = (size-refused a b Length .0, λ e. size-refused a b Damaged .0 e .1)
+gate-refused a (view b) = (λ e. absurd (omega arith), λ e. absurd (omega arith))
+gate-refused a report = (report-refused a Length .0, λ e. report-refused a Damaged .0 e .1)
+
+module _ (n : ℕ) (a : List ℕ) (ledger : Ledger) (agrees : Agrees n a ledger) where
+  -- ---- where the blocks lie
+
+  pub lies-apart : (below between above : Ledger) (e f : Entry) → ledger ≡ below ++ e ∷ (between ++ f ∷ above) → (i : ℕ) → Covers e i → Covers f i → ⊥
+  lies-apart below between above e f q i in-e in-f =
+      let h = laid-above controlWords n below e (between ++ f ∷ above) (rw q at (agrees-laid n a ledger agrees)) in
+      omega (arith, laid-listed (ends e) n (between ++ f ∷ above) f h (listed-at between f above) .0)
+
+  pub lies-inside : (e : Entry) → Listed ledger e → (controlWords ≤ begins e) × (ends e ≤ n)
+  lies-inside e listed = let h = laid-listed controlWords n ledger e (agrees-laid n a ledger agrees) listed in (omega arith, h .1)
+
+  -- ---- what the answers tell
+
+  reported : reportOn a .answer ≡ success (freeWords (chunksOf a) ∷ (widest (chunksOf a) - headerWords) ∷ liveBlocks (chunksOf a) ∷ freeChunks (chunksOf a) ∷ [])
+  unfolding reportOn
+  reported = rw (sound-gate a (agrees .is-sound))
+
+  pub adds-up : getD (reportOn a .answer .values) 0 0 + heldWords ledger ≡ n - controlWords
+  adds-up =
+      let law = agrees-lawful n a ledger agrees in
+      rw (reported, agrees .lists) (omega (arith, blocks-words firstChunk (chunksOf a) (law .sizes), law .fills))
+
+  sized : (e : Entry) → Listed ledger e → sizeOn a (e .block) .answer ≡ success (e .granted ∷ [])
+  unfolding sizeOn
+  sized e listed =
+      let k = listed-block n a ledger agrees e listed in
+      rw (sound-gate a (agrees .is-sound), block-held a (e .block) (k .pre) (k .s) (k .post) (agrees .is-sound) (k .stands))
+      (ap (λ (words : ℕ). success (words ∷ [])) (sym (k .granted-is)))
+
+  viewed : (e : Entry) → Listed ledger e → viewOn a (e .block) ≡ take (e .granted) (drop (e .block) a)
+  unfolding viewOn
+  viewed e listed = rw (sized e listed)
+
+  -- a call that is refused for its block, which is none, has a number that no entry has
+  refused-unlisted : (b : ℕ) {code : ℕ} → (code ≡ number NotABlock) ↔ ((sound a ≡ true) × NoBlock a b) → (code ≡ number NotABlock) ↔ Unlisted ledger b
+  refused-unlisted b refused = Iff·trans refused (λ h. unlisted-block n a ledger agrees b .0 (h .1), λ un. (agrees .is-sound, unlisted-block n a ledger agrees b .1 un))
+
+  pub tells : Tells ours a ledger
+  tells =
+      record {
+        never-length = λ c e. true≢false (sym (sound-lawful a (agrees .is-sound)) ∙ gate-refused a c .0 e);
+        never-damaged = λ c e. true≢false (sym (agrees .is-sound) ∙ gate-refused a c .1 e);
+        free-unlisted = λ b. refused-unlisted b (free-refused a b NotABlock);
+        realloc-unlisted = λ b w. refused-unlisted b (realloc-refused a b w NotABlock);
+        size-unlisted = λ b. refused-unlisted b (size-refused a b NotABlock);
+        size-listed = sized;
+        view-listed = λ e listed. ap success (viewed e listed);
+        report-done = ap (λ (answer : Answer). answer .code) reported;
+        live-blocks = rw (reported, agrees .lists) (blocks-count firstChunk (chunksOf a));
+      }
