@@ -9,5 +9,9 @@ pub mod Going
 pub mod Relocation
 pub mod Calls
 pub mod Stores
+pub mod Runs
+pub mod Following
+pub mod Lasting
+pub mod Demands
 pub mod Examples
 pub mod Useless

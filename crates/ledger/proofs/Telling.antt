@@ -6,18 +6,24 @@ use mathlib.Core.List.{List, [], _∷_, _++_}
 use Prim.Native.Nat.{ℕ, _+_, _-_, _≤_}
 use native.Mathlib.Omega.{arith}
 use lib.ListN.{length, getD, take, drop}
-use Rattle.layout.specs.Numbers.{controlWords, firstChunk, headerWords, lawful}
+use Rattle.layout.specs.Numbers.{controlWords, firstChunk, headerWords, lawful, need}
 use Rattle.layout.specs.Walk.{sound, chunksOf}
 use Rattle.layout.specs.Reasons.{number}
+use Rattle.layout.specs.declared.Reason.{Reason}
 use Rattle.layout.specs.declared.Reason.the-variants.{Length, Damaged, NotABlock}
-use Rattle.arena.specs.Answers.{Answer, success}
-use Rattle.arena.specs.Rules.{freeWords, widest, liveBlocks, freeChunks}
-use Rattle.arena.specs.Calls.{sizeOn, viewOn, reportOn}
+use Rattle.layout.proofs.Reasons.{number-positive}
+use Rattle.arena.specs.Answers.{Answer, Outcome, success}
+use Rattle.arena.specs.Rules.{taken, freeWords, widest, liveBlocks, freeChunks}
+use Rattle.arena.specs.Calls.{freeOn, sizeOn, viewOn, reportOn}
 use Rattle.arena.proofs.Gates.{sound-lawful, sound-gate}
 use Rattle.arena.proofs.Blocks.{NoBlock, block-held}
-use Rattle.arena.proofs.Reasons.{start-refused, alloc-refused, free-refused, realloc-refused, size-refused, report-refused}
+use Rattle.arena.proofs.Moving.{cut-numbers}
+use Rattle.arena.proofs.Cases.{Case, refuses, does, Allots, allots, alloc-case}
+use Rattle.arena.proofs.Regranting.{Regrants, shrinks, grows, moves, realloc-case}
+use Rattle.arena.proofs.Corners.{view-empty}
+use Rattle.arena.proofs.Reasons.{start-done, start-refused, alloc-refused, free-refused, realloc-refused, size-refused, report-refused}
 use Rattle.ledger.specs.Events.{Call, start, alloc, free, realloc, size, view, report, ours}
-use Rattle.ledger.specs.Ledger.{Entry, Ledger, Listed, Unlisted, begins, ends, Covers, heldWords}
+use Rattle.ledger.specs.Ledger.{Entry, Ledger, told, Listed, Unlisted, begins, ends, Covers, heldWords}
 use Rattle.ledger.specs.Demands.{Tells}
 use Rattle.ledger.proofs.Blocks.{Laid, blocks-words, blocks-count, listed-at}
 use Rattle.ledger.proofs.Entries.{laid-listed}
@@ -40,6 +46,27 @@ gate-refused a (realloc b n) = (realloc-refused a b n Length .0, λ e. realloc-r
 gate-refused a (size b) = (size-refused a b Length .0, λ e. size-refused a b Damaged .0 e .1)
 gate-refused a (view b) = (λ e. absurd (omega arith), λ e. absurd (omega arith))
 gate-refused a report = (report-refused a Length .0, λ e. report-refused a Damaged .0 e .1)
+
+-- ---- what is granted
+
+-- of words that are enough for the need of a request, at least the request is granted
+need-granted : (w s : ℕ) → need w ≤ s → w ≤ taken (need w) s - headerWords
+need-granted w s enough = omega (arith, cut-numbers (need w) s enough .enough)
+
+-- a call that grants is refused, or grants as many words as were asked
+enough-granted : {fields : ℕ} {a : List ℕ} {Refuses : Reason → Type 0} {Does : List ℕ → List ℕ → Type 0} {outcome : Outcome} (w : ℕ)
+    → ((values after : List ℕ) → Does values after → w ≤ told (success values) .granted) → Case fields a Refuses Does outcome
+    → outcome .answer .code ≡ 0 → w ≤ told (outcome .answer) .granted
+enough-granted w f (refuses why r) e = absurd (omega (arith, number-positive why))
+enough-granted w f (does {values} {after} d) e = f values after d
+
+alloc-grants : (a : List ℕ) (w : ℕ) (values after : List ℕ) → Allots a w values after → w ≤ told (success values) .granted
+alloc-grants a w values after (allots e r pre s post is) = need-granted w s (is .enough)
+
+realloc-grants : (a : List ℕ) (b w : ℕ) (values after : List ℕ) → Regrants a b w values after → w ≤ told (success values) .granted
+realloc-grants a b w values after (shrinks e r pre s post is l) = need-granted w s l
+realloc-grants a b w values after (grows e r pre s t post is l m) = need-granted w (s + t) m
+realloc-grants a b w values after (moves e r pre s post is l before t behind gap block at-is ks same) = need-granted w t (gap .enough)
 
 module _ (n : ℕ) (a : List ℕ) (ledger : Ledger) (agrees : Agrees n a ledger) where
   -- ---- where the blocks lie
@@ -70,6 +97,12 @@ module _ (n : ℕ) (a : List ℕ) (ledger : Ledger) (agrees : Agrees n a ledger)
       rw (sound-gate a (agrees .is-sound), block-held a (e .block) (k .pre) (k .s) (k .post) (agrees .is-sound) (k .stands))
       (ap (λ (words : ℕ). success (words ∷ [])) (sym (k .granted-is)))
 
+  freed : (e : Entry) → Listed ledger e → freeOn a (e .block) .answer .code ≡ 0
+  unfolding freeOn
+  freed e listed =
+      let k = listed-block n a ledger agrees e listed in
+      rw (sound-gate a (agrees .is-sound), block-held a (e .block) (k .pre) (k .s) (k .post) (agrees .is-sound) (k .stands))
+
   viewed : (e : Entry) → Listed ledger e → viewOn a (e .block) ≡ take (e .granted) (drop (e .block) a)
   unfolding viewOn
   viewed e listed = rw (sized e listed)
@@ -83,6 +116,11 @@ module _ (n : ℕ) (a : List ℕ) (ledger : Ledger) (agrees : Agrees n a ledger)
       record {
         never-length = λ c e. true≢false (sym (sound-lawful a (agrees .is-sound)) ∙ gate-refused a c .0 e);
         never-damaged = λ c e. true≢false (sym (agrees .is-sound) ∙ gate-refused a c .1 e);
+        start-done = start-done a .1 (λ why h. true≢false (sym (sound-lawful a (agrees .is-sound)) ∙ h .1));
+        alloc-enough = λ w. enough-granted w (alloc-grants a w) (alloc-case a w);
+        free-listed = freed;
+        realloc-enough = λ b w. enough-granted w (realloc-grants a b w) (realloc-case a b w);
+        view-unlisted = λ b un. ap success (view-empty a b .1 (λ e. omega (arith, refused-unlisted b (size-refused a b NotABlock) .1 un)));
         free-unlisted = λ b. refused-unlisted b (free-refused a b NotABlock);
         realloc-unlisted = λ b w. refused-unlisted b (realloc-refused a b w NotABlock);
         size-unlisted = λ b. refused-unlisted b (size-refused a b NotABlock);

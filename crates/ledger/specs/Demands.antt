@@ -10,7 +10,7 @@ use Rattle.layout.specs.Reasons.{number}
 use Rattle.layout.specs.declared.Reason.the-variants.{Length, Damaged, NotABlock, NoRoom}
 use Rattle.arena.specs.Answers.{Answer, Outcome, success}
 use Rattle.ledger.specs.Events.{Call, start, alloc, free, realloc, size, view, report, Event, call, store, Library}
-use Rattle.ledger.specs.Ledger.{Entry, Ledger, Listed, Unlisted, begins, ends, Covers, heldWords}
+use Rattle.ledger.specs.Ledger.{Entry, Ledger, told, Listed, Unlisted, begins, ends, Covers, heldWords}
 use Rattle.ledger.specs.Gaps.{gapTo, gaps, EachShorter}
 use Rattle.ledger.specs.Runs.{State, Allowed, after, Run}
 use Rattle.ledger.specs.Holders.{numberAfter, Ended, wordAfter, lastStored}
@@ -78,15 +78,20 @@ module _ (library : Library) where
       → RefusedWhen (library (realloc (e .block) w) (s .words) .answer .code)
       (EachShorter (need w) (gaps n (s .ledger)) × (headerWords + e .granted + gapTo n (ends e) above < need w))
 
-  -- what the answers tell in a run on words `a`, where the ledger is as given
+  -- what the answers tell of the words `a` in a run, where the ledger is as given: which calls are done, which blocks there are, how long they are and what they hold
   pub record Tells (a : List ℕ) (ledger : Ledger) : Type 0 where
     pub never-length : (c : Call) → library c a .answer .code ≢ number Length
     pub never-damaged : (c : Call) → library c a .answer .code ≢ number Damaged
+    pub start-done : library start a .answer .code ≡ 0
+    pub alloc-enough : (w : ℕ) → library (alloc w) a .answer .code ≡ 0 → w ≤ told (library (alloc w) a .answer) .granted
+    pub free-listed : (e : Entry) → Listed ledger e → library (free (e .block)) a .answer .code ≡ 0
     pub free-unlisted : (b : ℕ) → (library (free b) a .answer .code ≡ number NotABlock) ↔ Unlisted ledger b
+    pub realloc-enough : (b w : ℕ) → library (realloc b w) a .answer .code ≡ 0 → w ≤ told (library (realloc b w) a .answer) .granted
     pub realloc-unlisted : (b w : ℕ) → (library (realloc b w) a .answer .code ≡ number NotABlock) ↔ Unlisted ledger b
-    pub size-unlisted : (b : ℕ) → (library (size b) a .answer .code ≡ number NotABlock) ↔ Unlisted ledger b
     pub size-listed : (e : Entry) → Listed ledger e → library (size (e .block)) a .answer ≡ success (e .granted ∷ [])
+    pub size-unlisted : (b : ℕ) → (library (size b) a .answer .code ≡ number NotABlock) ↔ Unlisted ledger b
     pub view-listed : (e : Entry) → Listed ledger e → library (view (e .block)) a .answer ≡ success (take (e .granted) (drop (e .block) a))
+    pub view-unlisted : (b : ℕ) → Unlisted ledger b → library (view b) a .answer ≡ success []
     pub report-done : library report a .answer .code ≡ 0
     pub live-blocks : getD (library report a .answer .values) 2 0 ≡ length ledger
 
