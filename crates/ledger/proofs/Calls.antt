@@ -20,9 +20,9 @@ use Rattle.arena.proofs.Causes.{Request}
 use Rattle.arena.proofs.Cases.{Case, refuses, does, Starts, starts, start-case, Allots, allots, alloc-case, Frees, frees, free-case, Measures, measures, size-case, Reports, reports, report-case}
 use Rattle.arena.proofs.Regranting.{Regrants, shrinks, grows, moves, realloc-case}
 use Rattle.arena.proofs.Relocating.{relocated}
-use Rattle.ledger.specs.Events.{Call, start, alloc, free, realloc, size, view, report, ours}
-use Rattle.ledger.specs.Ledger.{Ledger, noted, ledgerAfter, ifDone}
-use Rattle.ledger.specs.Holders.{renamed}
+use Rattle.ledger.specs.Events.{Call, start, alloc, free, realloc, size, view, report, call, ours}
+use Rattle.ledger.specs.Ledger.{Ledger, grants, frees, regrants, effect, noted, ledgerAfter}
+use Rattle.ledger.specs.Holders.{renamed, numberAfter}
 use Rattle.ledger.proofs.Agreeing.{Agrees}
 use Rattle.ledger.proofs.Going.{Goes, stay-goes, written-goes, freed-goes, stays-goes, granted-goes}
 use Rattle.ledger.proofs.Relocation.{moved-goes}
@@ -30,11 +30,11 @@ use Rattle.ledger.proofs.Relocation.{moved-goes}
 -- a call on the words `a` that came to this outcome
 abbrev pub CallGoes : ℕ → List ℕ → Ledger → Call → Outcome → Type 0
 CallGoes n a ledger c outcome =
-    Goes n a ledger (λ b. ifDone (outcome .answer) (renamed c (outcome .answer) b) b) (outcome .words) (ledgerAfter c (outcome .answer) ledger)
+    Goes n a ledger (λ b. numberAfter (call c) (outcome .answer) b) (outcome .words) (ledgerAfter (call c) (outcome .answer) ledger)
 
 -- a refusal changes nothing, so all depends on what is done
 case-goes : {fields : ℕ} {n : ℕ} {a : List ℕ} {ledger : Ledger} {Refuses : Reason → Type 0} {Does : List ℕ → List ℕ → Type 0} {outcome : Outcome} (c : Call) → Agrees n a ledger
-    → ((values after : List ℕ) → Does values after → Goes n a ledger (renamed c (success values)) after (noted c (success values) ledger))
+    → ((values after : List ℕ) → Does values after → Goes n a ledger (renamed (effect (call c)) (success values)) after (noted (effect (call c)) (success values) ledger))
     → Case fields a Refuses Does outcome → CallGoes n a ledger c outcome
 case-goes {n = n} {a = a} {ledger = ledger} c g f (refuses why r) = rw (ne-eqb (number why) 0 (omega (arith, number-positive why))) (stay-goes n a ledger g)
 case-goes c g f (does {values} {after} d) = f values after d
@@ -46,10 +46,10 @@ module _ (n : ℕ) (a : List ℕ) (ledger : Ledger) (g : Agrees n a ledger) wher
   start-done : (values after : List ℕ) → Starts a values after → Goes n a ledger (λ b. b) after []
   start-done values after (starts l) = written-goes n a ledger (λ b. b) _ [] (g .long) (whole-lawful a l) refl (λ b. refl)
 
-  alloc-done : (w : ℕ) (values after : List ℕ) → Allots a w values after → Goes n a ledger (λ b. b) after (noted (alloc w) (success values) ledger)
+  alloc-done : (w : ℕ) (values after : List ℕ) → Allots a w values after → Goes n a ledger (λ b. b) after (noted grants (success values) ledger)
   alloc-done w values after (allots e r pre s post is) = granted-goes n a ledger g pre s post (need w) (is .same) (needed w r) (is .enough)
 
-  free-done : (b : ℕ) (values after : List ℕ) → Frees a b values after → Goes n a ledger (λ c. c) after (noted (free b) (success values) ledger)
+  free-done : (b : ℕ) (values after : List ℕ) → Frees a b values after → Goes n a ledger (λ c. c) after (noted (frees b) (success values) ledger)
   free-done b values after (frees e pre s post is) = freed-goes n a ledger g b pre s post is
 
   -- a realloc that answers the same block renames none
@@ -60,11 +60,11 @@ module _ (n : ℕ) (a : List ℕ) (ledger : Ledger) (g : Agrees n a ledger) wher
       go true q = sym (eqb-true c b q)
       go false q = refl
 
-  realloc-done : (b w : ℕ) (values after : List ℕ) → Regrants a b w values after → Goes n a ledger (renamed (realloc b w) (success values)) after (noted (realloc b w) (success values) ledger)
+  realloc-done : (b w : ℕ) (values after : List ℕ) → Regrants a b w values after → Goes n a ledger (renamed (regrants b) (success values)) after (noted (regrants b) (success values) ledger)
   realloc-done b w values after (shrinks e r pre s post is l) =
-      stays-goes n a ledger g b pre s [] post s (need w) (renamed (realloc b w) (success values)) is refl (omega arith) (needed w r) l (same-name b)
+      stays-goes n a ledger g b pre s [] post s (need w) (renamed (regrants b) (success values)) is refl (omega arith) (needed w r) l (same-name b)
   realloc-done b w values after (grows e r pre s t post is l m) =
-      stays-goes n a ledger g b pre s (gap t ∷ []) post (s + t) (need w) (renamed (realloc b w) (success values)) is refl (omega arith) (needed w r) m (same-name b)
+      stays-goes n a ledger g b pre s (gap t ∷ []) post (s + t) (need w) (renamed (regrants b) (success values)) is refl (omega arith) (needed w r) m (same-name b)
   realloc-done b w values after (moves e r pre s post is l before t behind fit block at-is ks same) =
       rw (same, at-is)
       (moved-goes n a ledger g b pre s post is before t behind (need w) (fit .same) (needed w r) (fit .enough) (l .own)

@@ -10,8 +10,8 @@ use borrow.Author.Tests.{eqb-true}
 use Rattle.layout.proofs.Bools.{both}
 use Rattle.arena.specs.Answers.{Answer, Outcome}
 use Rattle.ledger.specs.Events.{Call, Event, call, store, ours}
-use Rattle.ledger.specs.Ledger.{Entry, noted, Listed, Held}
-use Rattle.ledger.specs.Runs.{State, wordValues, Allowed, after, Run, begun, next}
+use Rattle.ledger.specs.Ledger.{Entry, effect, noted, Listed, Held}
+use Rattle.ledger.specs.Runs.{State, wordValues, Allowed, answerTo, after, Run, begun, next}
 use Rattle.ledger.specs.Holders.{renamed, Notes, carried, notesAfter, lastStored}
 use Rattle.ledger.proofs.Stores.{store-there}
 use Rattle.ledger.proofs.Following.{Carried, carried-note}
@@ -28,7 +28,7 @@ module _ (n : ℕ) (s : State) (g : Sure n s) (notes : Notes) (t : True s notes)
   true-onward words e f was b i v q p r keeps =
       ap (λ (c : ℕ). getD words (c + i) 0) (sym r) ∙ keeps ∙ ap (λ (c : ℕ). getD (s .words) (c + i) 0) p ∙ t was i v q .1
 
-  call-true : (c : Call) → True (after ours (call c) s) (notesAfter ours (call c) s notes)
+  call-true : (c : Call) → True (after ours (call c) s) (notesAfter (call c) (answerTo ours (call c) s) notes)
   call-true c b i v = go (eqb (answer .code) 0) (event-keeps n s g (call c) tt)
     where
       answer : Answer
@@ -38,19 +38,19 @@ module _ (n : ℕ) (s : State) (g : Sure n s) (notes : Notes) (t : True s notes)
       words = ours c (s .words) .words
 
       go : (done : Bool)
-          → ((e f : Entry) → Listed (s .ledger) e → Listed (cond done (noted c answer (s .ledger)) (s .ledger)) f → f .block ≡ cond done (renamed c answer (e .block)) (e .block)
+          → ((e f : Entry) → Listed (s .ledger) e → Listed (cond done (noted (effect (call c)) answer (s .ledger)) (s .ledger)) f → f .block ≡ cond done (renamed (effect (call c)) answer (e .block)) (e .block)
           → (i : ℕ) → i < e .granted → i < f .granted → getD words (f .block + i) 0 ≡ getD (s .words) (e .block + i) 0)
-          → cond done (carried c answer notes) notes b i ≡ some v → Held (cond done (noted c answer (s .ledger)) (s .ledger)) b i × (getD words (b + i) 0 ≡ v)
+          → cond done (carried (effect (call c)) answer notes) notes b i ≡ some v → Held (cond done (noted (effect (call c)) answer (s .ledger)) (s .ledger)) b i × (getD words (b + i) 0 ≡ v)
       go true keeps q =
-          let r = carried-note answer (s .ledger) notes b i v (λ k. t b i v k .0) c q in
+          let r = carried-note answer (s .ledger) notes b i v (λ k. t b i v k .0) (effect (call c)) q in
           let (e, l, p, h) = t (r .was) i v (r .noted-there) .0 in
           let (f, m, k, j) = r .still-held in
-          (r .still-held, true-onward words e f (r .was) b i v (r .noted-there) p k (keeps e f l m (k ∙ r .becomes ∙ ap (renamed c answer) (sym p)) i h j))
+          (r .still-held, true-onward words e f (r .was) b i v (r .noted-there) p k (keeps e f l m (k ∙ r .becomes ∙ ap (renamed (effect (call c)) answer) (sym p)) i h j))
       go false keeps q =
           let (e, l, p, h) = t b i v q .0 in
           (t b i v q .0, true-onward words e e b b i v q p p (keeps e e l l refl i h h))
 
-  store-true : (c j w : ℕ) → Held (s .ledger) c j → w < wordValues → True (after ours (store c j w) s) (notesAfter ours (store c j w) s notes)
+  store-true : (c j w : ℕ) → Held (s .ledger) c j → w < wordValues → True (after ours (store c j w) s) (notesAfter (store c j w) (answerTo ours (store c j w) s) notes)
   store-true c j w held fits b i v = go (eqb b c && eqb i j) refl (event-keeps n s g (store c j w) (held, fits))
     where
       words : List ℕ
@@ -67,7 +67,7 @@ module _ (n : ℕ) (s : State) (g : Sure n s) (notes : Notes) (t : True s notes)
           let (e, l, k, h) = t b i v q .0 in
           (t b i v q .0, true-onward words e e b b i v q k k (keeps e e l l refl i h h ∙ rw (k, p)))
 
-  event-true : (event : Event) → Allowed event (s .ledger) → True (after ours event s) (notesAfter ours event s notes)
+  event-true : (event : Event) → Allowed event (s .ledger) → True (after ours event s) (notesAfter event (answerTo ours event s) notes)
   event-true (call c) allowed = call-true c
   event-true (store c j w) allowed = store-true c j w (allowed .0) (allowed .1)
 

@@ -9,7 +9,7 @@ use Rattle.arena.proofs.Starting.{start-sound, start-chunks}
 use Rattle.arena.proofs.Keeping.{start-length}
 use Rattle.ledger.specs.Events.{Event, call, store, ours}
 use Rattle.ledger.specs.Ledger.{Entry, Listed}
-use Rattle.ledger.specs.Runs.{State, Allowed, after, Run, begun, next}
+use Rattle.ledger.specs.Runs.{State, Allowed, answerTo, after, Run, begun, next}
 use Rattle.ledger.specs.Holders.{numberAfter, wordAfter}
 use Rattle.ledger.proofs.Blocks.{blocksFrom}
 use Rattle.ledger.proofs.Agreeing.{Agrees}
@@ -27,7 +27,7 @@ event-agrees n s g (call c) allowed = call-goes n (s .words) (s .ledger) g c .ag
 event-agrees n s g (store b i v) allowed = store-agrees n (s .words) (s .ledger) g b i v (allowed .0)
 
 pub event-keeps : (n : ℕ) (s : State) → Sure n s → (event : Event) → Allowed event (s .ledger)
-    → (e f : Entry) → Listed (s .ledger) e → Listed (after ours event s .ledger) f → f .block ≡ numberAfter ours event s (e .block)
+    → (e f : Entry) → Listed (s .ledger) e → Listed (after ours event s .ledger) f → f .block ≡ numberAfter event (answerTo ours event s) (e .block)
     → (i : ℕ) → i < e .granted → i < f .granted
     → getD (after ours event s .words) (f .block + i) 0 ≡ wordAfter event (e .block) i (getD (s .words) (e .block + i) 0)
 event-keeps n s g (call c) allowed e f l m q i h k = call-goes n (s .words) (s .ledger) g c .keeps e f l m q i h k

@@ -12,8 +12,8 @@ use Rattle.arena.specs.Answers.{Answer, Outcome, success}
 use Rattle.ledger.specs.Events.{Call, start, alloc, free, realloc, size, view, report, Event, call, store, Library}
 use Rattle.ledger.specs.Ledger.{Entry, Ledger, told, Listed, Unlisted, begins, ends, Covers, heldWords}
 use Rattle.ledger.specs.Gaps.{gapTo, gaps, EachShorter}
-use Rattle.ledger.specs.Runs.{State, Allowed, after, Run}
-use Rattle.ledger.specs.Holders.{numberAfter, Ended, wordAfter, lastStored}
+use Rattle.ledger.specs.Runs.{State, Allowed, answerTo, after, Run, next}
+use Rattle.ledger.specs.Holders.{numberAfter, Ended, Cut, wordAfter, lastStored}
 
 -- a request that document 01 calls lawful, where no reason before 6 applies: for some words, and no more than there can be
 abbrev pub LawfulRequest : ℕ → ℕ → Type 0
@@ -44,13 +44,13 @@ module _ (library : Library) where
   abbrev pub GoesOn : Type 0
   GoesOn =
       (n : ℕ) (s : State) → Run library n s → (event : Event) → Allowed event (s .ledger) → (e : Entry) → Listed (s .ledger) e
-      → Ended library event s (e .block) ⊎ ((f : Entry) × Listed (after library event s .ledger) f × (f .block ≡ numberAfter library event s (e .block)))
+      → Ended event (answerTo library event s) (e .block) ⊎ ((f : Entry) × Listed (after library event s .ledger) f × (f .block ≡ numberAfter event (answerTo library event s) (e .block)))
 
   -- "and keep their holders' words, as many as old and new length share": the block of entry `e` goes on as that of entry `f`
   abbrev pub Keeps : Type 0
   Keeps =
       (n : ℕ) (s : State) → Run library n s → (event : Event) → Allowed event (s .ledger)
-      → (e f : Entry) → Listed (s .ledger) e → Listed (after library event s .ledger) f → f .block ≡ numberAfter library event s (e .block)
+      → (e f : Entry) → Listed (s .ledger) e → Listed (after library event s .ledger) f → f .block ≡ numberAfter event (answerTo library event s) (e .block)
       → (i : ℕ) → i < min (e .granted) (f .granted)
       → getD (after library event s .words) (f .block + i) 0 ≡ wordAfter event (e .block) i (getD (s .words) (e .block + i) 0)
 
@@ -58,6 +58,18 @@ module _ (library : Library) where
   abbrev pub Lasts : Type 0
   Lasts =
       (n : ℕ) (s : State) (run : Run library n s) (b i v : ℕ) → lastStored library run b i ≡ some v → getD (s .words) (b + i) 0 ≡ v
+
+  -- a store is noted as the last one at its place, and goes on to be, under the block's number, until the block ends, is cut below the place, or the place is stored to anew
+  pub record Memory (n : ℕ) (s : State) (run : Run library n s) : Type 0 where
+    pub stored : (b i v : ℕ) (allowed : Allowed (store b i v) (s .ledger)) → lastStored library (next run (store b i v) allowed) b i ≡ some v
+    pub until : (event : Event) (allowed : Allowed event (s .ledger)) (b i v : ℕ) → lastStored library run b i ≡ some v
+        → Ended event (answerTo library event s) b
+        ⊎ (Cut event (answerTo library event s) b i
+        ⊎ (((w : ℕ) × (event ≡ store b i w))
+        ⊎ (lastStored library (next run event allowed) (numberAfter event (answerTo library event s) b) i ≡ some v)))
+
+  abbrev pub Remembers : Type 0
+  Remembers = (n : ℕ) (s : State) (run : Run library n s) → Memory n s run
 
   -- "The reported free words, plus each ledger block's granted words and its two header words, make the arena less its two control words."
   abbrev pub Sums : Type 0

@@ -1,6 +1,7 @@
 -- What may happen to an arena: a call, which a library answers, or a store by the holder of a block.
-use Prim.Native.Nat.{ℕ}
-use mathlib.Core.List.{List}
+use Prim.Native.Nat.{ℕ, _+_}
+use mathlib.Core.List.{List, []}
+use lib.ListN.{set}
 use Rattle.arena.specs.Answers.{Outcome, success}
 use Rattle.arena.specs.Calls.{startOn, allocOn, freeOn, reallocOn, sizeOn, viewOn, reportOn}
 
@@ -31,3 +32,8 @@ ours (realloc b n) a = reallocOn a b n
 ours (size b) a = sizeOn a b
 ours (view b) a = record { answer = success (viewOn a b); words = a }
 ours report a = reportOn a
+
+-- what an event comes to; a store is the holder's own, and is always done
+abbrev pub happens : Library → Event → List ℕ → Outcome
+happens library (call c) a = library c a
+happens library (store b i v) a = record { answer = success []; words = set a (b + i) v }

@@ -1,69 +1,61 @@
--- What a holder goes by: the number under which a block goes on, what an event stores, and what was stored last.
-use Prim.Native.Nat.{ℕ, _+_}
+-- What a holder goes by, from events and answers alone: the number under which a block goes on, when it ends or is cut, and what was stored last.
+use Prim.Native.Nat.{ℕ, _+_, _≤_}
 use mathlib.Core.Path.{_≡_}
+use mathlib.Core.Logic.{_⊎_}
 use mathlib.Core.Bool.{cond, _&&_}
 use mathlib.Core.Option.{Option, none, some}
 use lib.Dec.{leb, eqb}
-use Rattle.arena.specs.Answers.{Answer, Outcome}
-use Rattle.ledger.specs.Events.{Call, start, alloc, free, realloc, size, view, report, Event, call, store, Library}
-use Rattle.ledger.specs.Ledger.{told, ifDone}
-use Rattle.ledger.specs.Runs.{State, Run, begun, next}
+use Rattle.arena.specs.Answers.{Answer}
+use Rattle.ledger.specs.Events.{Event, call, store, Library}
+use Rattle.ledger.specs.Ledger.{Effect, empties, grants, frees, regrants, spares, effect, told, ifDone}
+use Rattle.ledger.specs.Runs.{State, answerTo, Run, begun, next}
 
 -- ---- one event
 
--- the number of block `b` after a call that was done: a realloc of it answers the new one
-abbrev pub renamed : Call → Answer → ℕ → ℕ
-renamed start answer b = b
-renamed (alloc n) answer b = b
-renamed (free c) answer b = b
-renamed (realloc c n) answer b = cond (eqb b c) (told answer .block) b
-renamed (size c) answer b = b
-renamed (view c) answer b = b
-renamed report answer b = b
+-- the number of block `b`, once an event is done
+abbrev pub renamed : Effect → Answer → ℕ → ℕ
+renamed empties answer b = b
+renamed grants answer b = b
+renamed (frees c) answer b = b
+renamed (regrants c) answer b = cond (eqb b c) (told answer .block) b
+renamed spares answer b = b
 
-abbrev pub numberAfter : Library → Event → State → ℕ → ℕ
-numberAfter library (call c) s b = ifDone (library c (s .words) .answer) (renamed c (library c (s .words) .answer) b) b
-numberAfter library (store c j v) s b = b
+abbrev pub numberAfter : Event → Answer → ℕ → ℕ
+numberAfter event answer b = ifDone answer (renamed (effect event) answer b) b
 
--- an event ends block `b`: a free of it or a start, if it is done
-abbrev pub Ended : Library → Event → State → ℕ → Type 0
-Ended library (call start) s b = library start (s .words) .answer .code ≡ 0
-Ended library (call (alloc n)) s b = ⊥
-Ended library (call (free c)) s b = (b ≡ c) × (library (free c) (s .words) .answer .code ≡ 0)
-Ended library (call (realloc c n)) s b = ⊥
-Ended library (call (size c)) s b = ⊥
-Ended library (call (view c)) s b = ⊥
-Ended library (call report) s b = ⊥
-Ended library (store c j v) s b = ⊥
+-- block `b` ends: it is freed, or all is started over
+abbrev pub Ended : Event → Answer → ℕ → Type 0
+Ended event answer b = (answer .code ≡ 0) × ((effect event ≡ frees b) ⊎ (effect event ≡ empties))
 
--- the word at place `i` of block `b` after an event, where `old` was there: what is stored to that very place, otherwise `old`
+-- block `b` is cut below place `i`
+abbrev pub Cut : Event → Answer → ℕ → ℕ → Type 0
+Cut event answer b i = (answer .code ≡ 0) × (effect event ≡ regrants b) × (told answer .granted ≤ i)
+
+-- the word at place `i` of block `b`, where `old` was there: what an event stores to that very place, otherwise `old`
 abbrev pub wordAfter : Event → ℕ → ℕ → ℕ → ℕ
 wordAfter (call c) b i old = old
 wordAfter (store c j v) b i old = cond (eqb b c && eqb i j) v old
 
 -- ---- a run
 
--- for each block and each place: the value stored there last, or none
+-- for each block and each place: the value that was stored there last, or none
 abbrev pub Notes : Type 0
 Notes = (b i : ℕ) → Option ℕ
 
--- a call that was done ends the notes of a freed block and, at a start, of all; those of a reallocated block go on under the number that is answered, as many as were granted
-abbrev pub carried : Call → Answer → Notes → Notes
-carried start answer notes b i = none
-carried (alloc n) answer notes b i = notes b i
-carried (free c) answer notes b i = cond (eqb b c) none (notes b i)
-carried (realloc c n) answer notes b i =
+-- an ended block has no notes; those of a block that is granted anew go on under the number that is answered, as many as are granted
+abbrev pub carried : Effect → Answer → Notes → Notes
+carried empties answer notes b i = none
+carried grants answer notes b i = notes b i
+carried (frees c) answer notes b i = cond (eqb b c) none (notes b i)
+carried (regrants c) answer notes b i =
     cond (eqb b (told answer .block)) (cond (leb (i + 1) (told answer .granted)) (notes c i) none) (cond (eqb b c) none (notes b i))
-carried (size c) answer notes b i = notes b i
-carried (view c) answer notes b i = notes b i
-carried report answer notes b i = notes b i
+carried spares answer notes b i = notes b i
 
-abbrev pub notesAfter : Library → Event → State → Notes → Notes
-notesAfter library (call c) s notes =
-    ifDone (library c (s .words) .answer) (carried c (library c (s .words) .answer) notes) notes
-notesAfter library (store c j v) s notes = λ b i. cond (eqb b c && eqb i j) (some v) (notes b i)
+abbrev pub notesAfter : Event → Answer → Notes → Notes
+notesAfter (call c) answer notes = ifDone answer (carried (effect (call c)) answer notes) notes
+notesAfter (store c j v) answer notes = λ b i. cond (eqb b c && eqb i j) (some v) (notes b i)
 
 -- what holders stored last
 unfoldable pub lastStored : (library : Library) {n : ℕ} {s : State} → Run library n s → Notes
 lastStored library (begun a long l) = λ b i. none
-lastStored library (next {s} run event allowed) = notesAfter library event s (lastStored library run)
+lastStored library (next {s} run event allowed) = notesAfter event (answerTo library event s) (lastStored library run)

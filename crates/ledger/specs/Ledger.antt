@@ -1,4 +1,4 @@
--- The ledger: the blocks that are held, written down from calls and answers alone.
+-- The ledger: the blocks that are held, written down from events and answers alone: it never sees a word.
 use Prim.Native.Nat.{ℕ, _+_, _-_, _≤_, _<_}
 use mathlib.Core.Path.{_≡_}
 use mathlib.Core.Logic.{_⊎_, _≢_}
@@ -8,7 +8,7 @@ use lib.ListN.{getD}
 use lib.Dec.{leb, eqb}
 use Rattle.layout.specs.Numbers.{headerWords}
 use Rattle.arena.specs.Answers.{Answer}
-use Rattle.ledger.specs.Events.{Call, start, alloc, free, realloc, size, view, report}
+use Rattle.ledger.specs.Events.{Call, start, alloc, free, realloc, size, view, report, Event, call, store}
 
 -- a block's number and its granted words
 pub record Entry : Type 0 where
@@ -31,27 +31,42 @@ unfoldable pub strike : ℕ → Ledger → Ledger
 strike b [] = []
 strike b (f ∷ fs) = cond (eqb (f .block) b) (strike b fs) (f ∷ strike b fs)
 
--- the block and the granted words that alloc or realloc answers
+-- what an event that is done means for the blocks
+pub data Effect : Type 0 where
+  empties : Effect  -- every block ends
+  grants : Effect  -- the block that is answered is new
+  frees : (b : ℕ) → Effect  -- block `b` ends
+  regrants : (b : ℕ) → Effect  -- block `b` goes on as the block that is answered
+  spares : Effect  -- each block goes on as it is
+
+abbrev pub effect : Event → Effect
+effect (call start) = empties
+effect (call (alloc n)) = grants
+effect (call (free b)) = frees b
+effect (call (realloc b n)) = regrants b
+effect (call (size b)) = spares
+effect (call (view b)) = spares
+effect (call report) = spares
+effect (store b i v) = spares
+
+-- the block and the granted words that an answer tells
 abbrev pub told : Answer → Entry
 told answer = record { block = getD (answer .values) 0 0; granted = getD (answer .values) 1 0 }
 
--- one thing after a call that was done, another after a refusal
+abbrev pub noted : Effect → Answer → Ledger → Ledger
+noted empties answer ledger = []
+noted grants answer ledger = enter (told answer) ledger
+noted (frees b) answer ledger = strike b ledger
+noted (regrants b) answer ledger = enter (told answer) (strike b ledger)
+noted spares answer ledger = ledger
+
+-- one thing after an event that was done, another after a refusal
 abbrev pub ifDone : {A : Type 0} → Answer → A → A → A
 ifDone answer x y = cond (eqb (answer .code) 0) x y
 
--- a grant enters, a free leaves, a realloc puts the block that it answers for the old one, and a start empties the ledger
-abbrev pub noted : Call → Answer → Ledger → Ledger
-noted start answer ledger = []
-noted (alloc n) answer ledger = enter (told answer) ledger
-noted (free b) answer ledger = strike b ledger
-noted (realloc b n) answer ledger = enter (told answer) (strike b ledger)
-noted (size b) answer ledger = ledger
-noted (view b) answer ledger = ledger
-noted report answer ledger = ledger
-
 -- a refusal changes nothing
-abbrev pub ledgerAfter : Call → Answer → Ledger → Ledger
-ledgerAfter call answer ledger = ifDone answer (noted call answer ledger) ledger
+abbrev pub ledgerAfter : Event → Answer → Ledger → Ledger
+ledgerAfter event answer ledger = ifDone answer (noted (effect event) answer ledger) ledger
 
 -- ---- how it is read
 

@@ -1,12 +1,12 @@
 -- Runs: an arena that is started, and then any number of events.
-use Prim.Native.Nat.{ℕ, _+_, _<_}
+use Prim.Native.Nat.{ℕ, _<_}
 use mathlib.Core.Path.{_≡_}
 use mathlib.Core.Bool.{true}
 use mathlib.Core.List.{List, []}
-use lib.ListN.{length, set}
+use lib.ListN.{length}
 use Rattle.layout.specs.Numbers.{lawful}
-use Rattle.arena.specs.Answers.{Outcome}
-use Rattle.ledger.specs.Events.{Call, start, Event, call, store, Library}
+use Rattle.arena.specs.Answers.{Answer, Outcome}
+use Rattle.ledger.specs.Events.{Call, start, Event, call, store, Library, happens}
 use Rattle.ledger.specs.Ledger.{Ledger, ledgerAfter, Held}
 
 pub record State : Type 0 where
@@ -23,10 +23,11 @@ Allowed (call c) ledger = Unit {0}
 Allowed (store b i v) ledger = Held ledger b i × (v < wordValues)
 
 module _ (library : Library) where
+  abbrev pub answerTo : Event → State → Answer
+  answerTo event s = happens library event (s .words) .answer
+
   abbrev pub after : Event → State → State
-  after (call c) s =
-      record { words = library c (s .words) .words; ledger = ledgerAfter c (library c (s .words) .answer) (s .ledger) }
-  after (store b i v) s = record { words = set (s .words) (b + i) v; ledger = s .ledger }
+  after event s = record { words = happens library event (s .words) .words; ledger = ledgerAfter event (answerTo event s) (s .ledger) }
 
   -- a run in an arena of `n` words, up to a state: it begins with any words, started
   pub data Run (n : ℕ) : State → Type 0 where
