@@ -15,7 +15,7 @@ use Rattle.layout.proofs.Written.{length-written}
 use Rattle.layout.proofs.Round.{sound-chunks, written-sound}
 use Rattle.arena.specs.Answers.{Outcome}
 use Rattle.arena.specs.Spots.{held}
-use Rattle.arena.specs.Rules.{splits, taken, cut, trim, joined, released, copied}
+use Rattle.arena.specs.Rules.{splits, trim, joined, released, copied}
 use Rattle.arena.specs.Calls.{startOn, allocOn, freeOn, reallocOn}
 use Rattle.arena.specs.Inside.Places.{Needed}
 use Rattle.arena.proofs.Gates.{sound-lawful, request-needed}

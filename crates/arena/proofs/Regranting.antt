@@ -1,5 +1,6 @@
 -- What realloc comes to, case by case.
 use mathlib.Core.Path.{_≡_, refl}
+use mathlib.Core.Logic.{_↔_}
 use mathlib.Core.Bool.{Bool, true, false, cond}
 use mathlib.Core.List.{List, [], _∷_, _++_}
 use lib.ListN.{length}
@@ -23,9 +24,17 @@ use Rattle.arena.proofs.Causes.{Request, Short, ReallocRefused}
 use Rattle.arena.proofs.Cases.{Case, refuses, does}
 use Rattle.arena.proofs.Gates.{Checked, unlawful, damaged, whole, checked, Asked, for-none, for-more, for-some, asked}
 
-short-room : (s : ℕ) (post : List Chunk) (need : ℕ) → roomWords s post < need → Short s post need
-short-room s post need l =
-    record { own = omega (arith, room-words s post); with-next = λ (t : ℕ) (rest : List Chunk) (q : post ≡ free t ∷ rest). rw q at l }
+-- the words of the chunk and of a free chunk right after it are too few exactly when its room is
+pub short-room : (s : ℕ) (post : List Chunk) (need : ℕ) → Short s post need ↔ (roomWords s post < need)
+short-room s post need = (
+  room post,
+  λ l. record { own = omega (arith, room-words s post); with-next = λ (t : ℕ) (rest : List Chunk) (e : post ≡ free t ∷ rest). rw e at l },
+)
+  where
+    room : (post : List Chunk) → Short s post need → roomWords s post < need
+    room [] l = l .own
+    room (live t ∷ post) l = l .own
+    room (free t ∷ post) l = l .with-next t post refl
 
 -- ways 1 and 2, where the block of `s` words stands before `post`
 pub data Stays (a : List ℕ) (b need : ℕ) (pre : List Chunk) (s : ℕ) : List Chunk → Way → Way → Type 0 where
@@ -41,13 +50,13 @@ stays-told a b need pre s post = go (leb need s) refl post
     more : (t : ℕ) (post : List Chunk) (fits : Bool) → leb need (s + t) ≡ fits → s < need
         → Stays a b need pre s (free t ∷ post) shut (cond fits (grants b (taken need (s + t) - headerWords) (written (joined (pre ++ (trim need (s + t) ++ post))) a)) shut)
     more t post true e l = by-next l (leb-true need (s + t) e)
-    more t post false e l = by-none (short-room s (free t ∷ post) need (leb-false need (s + t) e))
+    more t post false e l = by-none (short-room s (free t ∷ post) need .1 (leb-false need (s + t) e))
 
     go : (fits : Bool) → leb need s ≡ fits → (post : List Chunk)
         → Stays a b need pre s post (cond fits (grants b (taken need s - headerWords) (written (joined (pre ++ (trim need s ++ post))) a)) shut) (grow b need (at pre (live s) post) a)
     go true e post = by-own (leb-true need s e)
-    go false e [] = by-none (short-room s [] need (leb-false need s e))
-    go false e (live t ∷ post) = by-none (short-room s (live t ∷ post) need (leb-false need s e))
+    go false e [] = by-none (short-room s [] need .1 (leb-false need s e))
+    go false e (live t ∷ post) = by-none (short-room s (live t ∷ post) need .1 (leb-false need s e))
     go false e (free t ∷ post) = more t post (leb need (s + t)) refl (leb-false need s e)
 
 -- what realloc does: the block keeps its need of its own words, or of those and the free chunk's right after it, or it moves to a new block of the lowest free chunk that fits

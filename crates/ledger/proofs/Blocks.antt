@@ -1,12 +1,12 @@
 -- The live blocks of a list of chunks, as a ledger has them: of chunks in a row, of merged chunks, and of an arena.
 use mathlib.Core.Path.{_≡_, refl, sym, ap, _∙_}
-use mathlib.Core.Logic.{_⊎_, inl, inr}
+use mathlib.Core.Logic.{inl, inr}
 use mathlib.Core.List.{List, [], _∷_, _++_}
 use Prim.Native.Nat.{ℕ, _+_, _-_, _≤_}
 use native.Mathlib.Omega.{arith}
 use lib.ListN.{length}
 use Rattle.layout.specs.Numbers.{firstChunk, headerWords}
-use Rattle.layout.specs.Chunks.{Chunk, free, live, size, total}
+use Rattle.layout.specs.Chunks.{Chunk, free, live, total}
 use Rattle.layout.specs.Walk.{chunksOf}
 use Rattle.layout.proofs.Holds.{Sizes}
 use Rattle.arena.specs.Rules.{join, joined, freeWords, liveBlocks}

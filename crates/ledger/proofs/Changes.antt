@@ -1,5 +1,5 @@
 -- A list of chunks in which some are replaced, and what the ledger of its blocks becomes: a grant, a free, a block that stays and a block that moves.
-use mathlib.Core.Path.{_≡_, refl, sym, ap, _∙_}
+use mathlib.Core.Path.{_≡_, refl, ap}
 use mathlib.Core.Logic.{_⊎_, inl, inr}
 use mathlib.Core.Bool.{Bool, true, false, cond}
 use mathlib.Core.List.{List, [], _∷_, _++_}

@@ -1,13 +1,13 @@
 -- Demand 3 of our calls, over every run.
-use Prim.Native.Nat.{ℕ, _<_, min}
 use native.Mathlib.Omega.{arith}
 use Rattle.ledger.specs.Events.{ours}
-use Rattle.ledger.specs.Demands.{Lengths, Apart, Inside, GoesOn, Keeps, Lasts, Sums, RoomForAlloc, RoomForRealloc, Known}
+use Rattle.ledger.specs.Demands.{Lengths, Apart, Inside, GoesOn, Keeps, Lasts, Remembers, Sums, RoomForAlloc, RoomForRealloc, Known}
 use Rattle.ledger.proofs.Rooms.{alloc-room, realloc-room}
 use Rattle.ledger.proofs.Telling.{lies-apart, lies-inside, adds-up, tells}
 use Rattle.ledger.proofs.Runs.{run-agrees, event-keeps}
 use Rattle.ledger.proofs.Following.{ledger-goes-on}
 use Rattle.ledger.proofs.Lasting.{run-lasts}
+use Rattle.ledger.proofs.Remembering.{memory}
 
 pub lengths : Lengths ours
 lengths n s run = run-agrees run .long
@@ -26,6 +26,9 @@ keeps n s run event allowed e f l m q i h = event-keeps n s (run-agrees run) eve
 
 pub lasts : Lasts ours
 lasts n s run b i v q = run-lasts run b i v q .1
+
+pub remembers : Remembers ours
+remembers = memory
 
 pub sums : Sums ours
 sums n s run = adds-up n (s .words) (s .ledger) (run-agrees run)

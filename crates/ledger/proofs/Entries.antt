@@ -2,11 +2,11 @@
 use mathlib.Core.Path.{_≡_, refl, sym, ap, _∙_}
 use mathlib.Core.Logic.{_≢_, _⊎_, inl, inr}
 use mathlib.Core.Bool.{Bool, true, false, cond}
-use mathlib.Core.List.{List, [], _∷_, _++_}
-use Prim.Native.Nat.{ℕ, _+_, _≤_, _<_}
+use mathlib.Core.List.{[], _∷_, _++_}
+use Prim.Native.Nat.{ℕ, _+_, _≤_}
 use native.Mathlib.Omega.{arith}
 use lib.Dec.{leb, eqb}
-use borrow.Author.Tests.{eqb-true, eqb-false, leb-true, leb-false, le-leb, lt-leb, eq-eqb, ne-eqb}
+use borrow.Author.Tests.{eqb-true, eqb-false, leb-true, le-leb, lt-leb, eq-eqb, ne-eqb}
 use Rattle.layout.specs.Numbers.{headerWords}
 use Rattle.ledger.specs.Ledger.{Entry, Ledger, enter, strike, Listed, Unlisted, ends}
 use Rattle.ledger.proofs.Blocks.{Laid}
@@ -103,6 +103,17 @@ laid-order c d (e ∷ es) f g h (inl p) (inl q) = inl (sym p ∙ q)
 laid-order c d (e ∷ es) f g h (inl p) (inr m) = inr (inl (rw (← p) (laid-listed (ends e) d es g (h .1) m .0)))
 laid-order c d (e ∷ es) f g h (inr l) (inl q) = inr (inr (rw (← q) (laid-listed (ends e) d es f (h .1) l .0)))
 laid-order c d (e ∷ es) f g h (inr l) (inr m) = laid-order (ends e) d es f g (h .1) l m
+
+-- an entry that is put in and lies apart from the others has a number of its own
+pub laid-fresh : (c d : ℕ) (f : Entry) (es : Ledger) → Laid c d (enter f es) → Unlisted es (f .block)
+unfolding enter
+laid-fresh c d f [] h g l q = l
+laid-fresh c d f (e ∷ es) h g l q = go (leb (f .block) (e .block)) h (λ k m. laid-fresh (ends e) d f es k g m q) l
+  where
+    go : (first : Bool) → Laid c d (cond first (f ∷ e ∷ es) (e ∷ enter f es)) → (Laid (ends e) d (enter f es) → Listed es g → ⊥) → Listed (e ∷ es) g → ⊥
+    go true k later m = omega (arith, laid-listed (ends f) d (e ∷ es) g (k .1) m .0)
+    go false k later (inl p) = omega (arith, ap (λ (a : Entry). a .block) p, laid-listed (ends e) d (enter f es) f (k .1) (enter-listed f es) .0)
+    go false k later (inr m) = later (k .1) m
 
 -- ---- an entry in its place
 

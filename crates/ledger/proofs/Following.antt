@@ -1,16 +1,16 @@
 -- What a ledger keeps track of, whatever the library: no block is lost sight of, and what was stored last is noted of held places alone.
 use mathlib.Core.Path.{_≡_, refl, sym, ap, _∙_}
-use mathlib.Core.Logic.{_≢_, _⊎_, inl, inr}
+use mathlib.Core.Logic.{_⊎_, inl, inr}
 use mathlib.Core.Bool.{Bool, true, false, cond}
-use mathlib.Core.Option.{Option, none, some, Option·none-ne-some}
-use Prim.Native.Nat.{ℕ, _+_, _<_}
+use mathlib.Core.Option.{none, some, Option·none-ne-some}
+use Prim.Native.Nat.{ℕ, _+_}
 use native.Mathlib.Omega.{arith}
 use lib.Dec.{leb, eqb}
-use borrow.Author.Tests.{eqb-true, eqb-false, leb-true, eq-eqb, ne-eqb}
+use borrow.Author.Tests.{eqb-true, eqb-false, leb-true, eq-eqb}
 use Rattle.arena.specs.Answers.{Answer}
 use Rattle.ledger.specs.Events.{Event, Library}
 use Rattle.ledger.specs.Ledger.{Entry, Ledger, enter, strike, Effect, empties, grants, frees, regrants, spares, effect, told, noted, ledgerAfter, Listed, Held}
-use Rattle.ledger.specs.Runs.{State, answerTo}
+use Rattle.ledger.specs.Runs.{answerTo}
 use Rattle.ledger.specs.Holders.{renamed, numberAfter, Ended, Notes, carried}
 use Rattle.ledger.specs.Demands.{GoesOn}
 use Rattle.ledger.proofs.Entries.{enter-listed, listed-enter, listed-strike}

@@ -9,8 +9,6 @@ use Rattle.layout.specs.Numbers.{headerWords}
 use Rattle.layout.specs.Chunks.{Chunk, free, live, total}
 use Rattle.layout.proofs.Holds.{Sizes, Spaced}
 use Rattle.arena.specs.Inside.Rooms.{roomWords}
-use Rattle.arena.proofs.Room.{room-words}
-use Rattle.arena.proofs.Causes.{Short}
 use Rattle.ledger.specs.Gaps.{gapTo, gapsFrom, EachShorter}
 use Rattle.ledger.proofs.Blocks.{blocksFrom}
 
@@ -70,15 +68,3 @@ gap-above n c s (live t ∷ post) e h = omega arith
 gap-above n c s (free t ∷ []) e h = omega arith
 gap-above n c s (free t ∷ live u ∷ post) e h = omega arith
 gap-above n c s (free t ∷ free u ∷ post) e h = absurd (true≢false (h .1 .0))
-
--- a chunk of `s` words is too short for a need, with a free chunk right after it too, exactly when its room is
-pub short-room : (s : ℕ) (post : List Chunk) (need : ℕ) → Short s post need ↔ (roomWords s post < need)
-short-room s post need = (
-  room post,
-  λ l. record { own = omega (arith, room-words s post); with-next = λ (t : ℕ) (rest : List Chunk) (e : post ≡ free t ∷ rest). rw e at l },
-)
-  where
-    room : (post : List Chunk) → Short s post need → roomWords s post < need
-    room [] l = l .own
-    room (live t ∷ post) l = l .own
-    room (free t ∷ post) l = l .with-next t post refl

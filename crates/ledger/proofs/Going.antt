@@ -1,33 +1,24 @@
 -- How a call goes: the ledger agrees with the words that it leaves, and the blocks that go on keep their words.
 use mathlib.Core.Path.{_≡_, refl, sym, ap, _∙_}
-use mathlib.Core.Logic.{_≢_, _⊎_, inl, inr}
-use mathlib.Core.Bool.{Bool, true, false, cond}
 use mathlib.Core.List.{List, [], _∷_, _++_}
 use Prim.Native.Nat.{ℕ, _+_, _-_, _≤_, _<_}
 use native.Mathlib.Omega.{arith}
-use lib.Dec.{eqb}
 use lib.ListN.{length, getD}
-use borrow.Author.Tests.{eqb-true, eqb-false, ne-eqb}
-use Rattle.layout.specs.Numbers.{firstChunk, headerWords, need}
+use Rattle.layout.specs.Numbers.{firstChunk, headerWords}
 use Rattle.layout.specs.Chunks.{Chunk, free as gap, live, total, written}
-use Rattle.layout.specs.Walk.{sound, chunksOf}
-use Rattle.layout.specs.Reasons.{number}
-use Rattle.layout.specs.declared.Reason.{Reason}
+use Rattle.layout.specs.Walk.{chunksOf}
 use Rattle.layout.proofs.Holds.{Sizes, Lawful, sizes-split}
 use Rattle.layout.proofs.Inside.{inside-kept}
-use Rattle.layout.proofs.Reasons.{number-positive}
 use Rattle.layout.proofs.Round.{sound-chunks, written-sound}
 use Rattle.layout.proofs.Written.{length-written}
-use Rattle.arena.specs.Answers.{Outcome, success}
 use Rattle.arena.specs.Rules.{taken, cut, trim, joined}
 use Rattle.arena.specs.Inside.Places.{Needed}
 use Rattle.arena.proofs.Blocks.{BlockAt}
-use Rattle.arena.proofs.Cases.{Case, refuses, does}
 use Rattle.arena.proofs.Taking.{cut-lawful}
 use Rattle.arena.proofs.Moving.{cut-numbers}
 use Rattle.arena.proofs.Keeping.{chunks-lawful, freed-lawful, trimmed-lawful}
 use Rattle.ledger.specs.Ledger.{Entry, Ledger, enter, strike, Listed, Unlisted}
-use Rattle.ledger.proofs.Blocks.{entryAt, blocksFrom, blocks-joined, Chunked, chunked, listed-split}
+use Rattle.ledger.proofs.Blocks.{entryAt, blocksFrom, blocks-joined, chunked, listed-split}
 use Rattle.ledger.proofs.Changes.{cut-blocks, trim-blocks, trim-total, enters, leaves, replaces, fresh}
 use Rattle.ledger.proofs.Agreeing.{Agrees}
 

@@ -8,13 +8,13 @@ use lib.Dec.{eqb}
 use lib.ListN.{getD, set}
 use borrow.Author.Tests.{eqb-true}
 use Rattle.layout.proofs.Bools.{both}
-use Rattle.arena.specs.Answers.{Answer, Outcome}
+use Rattle.arena.specs.Answers.{Answer}
 use Rattle.ledger.specs.Events.{Call, Event, call, store, ours}
 use Rattle.ledger.specs.Ledger.{Entry, effect, noted, Listed, Held}
 use Rattle.ledger.specs.Runs.{State, wordValues, Allowed, answerTo, after, Run, begun, next}
 use Rattle.ledger.specs.Holders.{renamed, Notes, carried, notesAfter, lastStored}
 use Rattle.ledger.proofs.Stores.{store-there}
-use Rattle.ledger.proofs.Following.{Carried, carried-note}
+use Rattle.ledger.proofs.Following.{carried-note}
 use Rattle.ledger.proofs.Runs.{Sure, event-keeps, run-agrees}
 
 -- the notes are of held places, and true of the words

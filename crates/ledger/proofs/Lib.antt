@@ -12,6 +12,7 @@ pub mod Stores
 pub mod Runs
 pub mod Following
 pub mod Lasting
+pub mod Remembering
 pub mod Demands
 pub mod Examples
 pub mod Useless

@@ -7,9 +7,9 @@ use Prim.Native.Nat.{ℕ, _+_, _-_, _≤_, _<_}
 use native.Mathlib.Omega.{arith}
 use lib.Dec.{eqb}
 use lib.ListN.{getD}
-use borrow.Author.Tests.{eqb-true, eqb-false}
+use borrow.Author.Tests.{eqb-true}
 use Rattle.layout.specs.Numbers.{firstChunk, headerWords}
-use Rattle.layout.specs.Chunks.{Chunk, free, live, total, written}
+use Rattle.layout.specs.Chunks.{Chunk, free, total, written}
 use Rattle.layout.specs.Walk.{chunksOf}
 use Rattle.layout.proofs.Written.{length-written}
 use Rattle.arena.specs.Spots.{held}

@@ -18,13 +18,14 @@ use Rattle.arena.proofs.Gates.{sound-lawful}
 use Rattle.arena.proofs.Joining.{spaced-after}
 use Rattle.arena.proofs.Blocks.{BlockAt, NoGap, block-held}
 use Rattle.arena.proofs.Causes.{Request, Grounds, Short, ShortBlock}
+use Rattle.arena.proofs.Regranting.{short-room}
 use Rattle.arena.proofs.Reasons.{alloc-refused, alloc-done, realloc-refused, realloc-done}
 use Rattle.ledger.specs.Ledger.{Entry, Ledger, ends}
 use Rattle.ledger.specs.Gaps.{gapTo, gaps, EachShorter}
 use Rattle.ledger.specs.Demands.{LawfulRequest, RefusedWhen}
 use Rattle.ledger.proofs.Blocks.{Chunked}
 use Rattle.ledger.proofs.Agreeing.{Agrees, chunked-block, agrees-lawful, agrees-chunked}
-use Rattle.ledger.proofs.Gaps.{gapsIn, gaps-blocks, gaps-shorter, gap-above, short-room}
+use Rattle.ledger.proofs.Gaps.{gapsIn, gaps-blocks, gaps-shorter, gap-above}
 
 -- ---- the reasons before want of room
 

@@ -1,7 +1,6 @@
 -- Over every run of our calls the ledger agrees with the arena, and the blocks that go on keep their words.
-use mathlib.Core.Path.{_≡_, refl, sym, ap, _∙_}
+use mathlib.Core.Path.{_≡_, sym, ap, _∙_}
 use mathlib.Core.Bool.{true}
-use mathlib.Core.List.{List, []}
 use Prim.Native.Nat.{ℕ, _+_, _<_}
 use lib.ListN.{length, getD}
 use Rattle.layout.specs.Numbers.{firstChunk, lawful}

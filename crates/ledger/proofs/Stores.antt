@@ -1,12 +1,12 @@
 -- A holder's store: it changes one word of one block, and no other word of any block.
 use mathlib.Core.Path.{_≡_, refl, sym, ap, _∙_}
-use mathlib.Core.Logic.{_≢_, _⊎_, inl, inr}
+use mathlib.Core.Logic.{_⊎_, inl, inr}
 use mathlib.Core.Bool.{Bool, true, false, cond, _&&_}
 use mathlib.Core.List.{List}
 use Prim.Native.Nat.{ℕ, _+_, _-_, _≤_, _<_}
 use native.Mathlib.Omega.{arith}
 use lib.Dec.{eqb}
-use lib.ListN.{length, getD, set, length-set}
+use lib.ListN.{getD, set, length-set}
 use lib.Seq.{getD-set-same, getD-set-other}
 use borrow.Author.Tests.{eqb-true, eqb-false}
 use Rattle.layout.specs.Numbers.{firstChunk, headerWords}
@@ -14,7 +14,6 @@ use Rattle.layout.specs.Chunks.{live, total}
 use Rattle.layout.specs.Walk.{chunksOf}
 use Rattle.layout.proofs.Inside.{store-inside}
 use Rattle.layout.proofs.Round.{sound-chunks, arena-sound, arena-chunks}
-use Rattle.layout.proofs.Written.{Arena}
 use Rattle.ledger.specs.Ledger.{Entry, Ledger, Listed, ends, Held}
 use Rattle.ledger.proofs.Blocks.{blocksFrom, chunked, listed-split}
 use Rattle.ledger.proofs.Entries.{laid-listed, laid-order}

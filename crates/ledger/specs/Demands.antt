@@ -8,12 +8,12 @@ use lib.ListN.{length, getD, take, drop}
 use Rattle.layout.specs.Numbers.{controlWords, headerWords, greatestRequest, need}
 use Rattle.layout.specs.Reasons.{number}
 use Rattle.layout.specs.declared.Reason.the-variants.{Length, Damaged, NotABlock, NoRoom}
-use Rattle.arena.specs.Answers.{Answer, Outcome, success}
-use Rattle.ledger.specs.Events.{Call, start, alloc, free, realloc, size, view, report, Event, call, store, Library}
+use Rattle.arena.specs.Answers.{success}
+use Rattle.ledger.specs.Events.{Call, start, alloc, free, realloc, size, view, report, Event, store, Library}
 use Rattle.ledger.specs.Ledger.{Entry, Ledger, told, Listed, Unlisted, begins, ends, Covers, heldWords}
 use Rattle.ledger.specs.Gaps.{gapTo, gaps, EachShorter}
 use Rattle.ledger.specs.Runs.{State, Allowed, answerTo, after, Run, next}
-use Rattle.ledger.specs.Holders.{numberAfter, Ended, Cut, wordAfter, lastStored}
+use Rattle.ledger.specs.Holders.{numberAfter, Ended, Fate, wordAfter, lastStored}
 
 -- a request that document 01 calls lawful, where no reason before 6 applies: for some words, and no more than there can be
 abbrev pub LawfulRequest : ℕ → ℕ → Type 0
@@ -59,14 +59,11 @@ module _ (library : Library) where
   Lasts =
       (n : ℕ) (s : State) (run : Run library n s) (b i v : ℕ) → lastStored library run b i ≡ some v → getD (s .words) (b + i) 0 ≡ v
 
-  -- a store is noted as the last one at its place, and goes on to be, under the block's number, until the block ends, is cut below the place, or the place is stored to anew
+  -- where a value that is stored is noted as the last, and goes on to be, under the block's number, until the block ends, is cut below the place, or the place is stored to anew
   pub record Memory (n : ℕ) (s : State) (run : Run library n s) : Type 0 where
     pub stored : (b i v : ℕ) (allowed : Allowed (store b i v) (s .ledger)) → lastStored library (next run (store b i v) allowed) b i ≡ some v
     pub until : (event : Event) (allowed : Allowed event (s .ledger)) (b i v : ℕ) → lastStored library run b i ≡ some v
-        → Ended event (answerTo library event s) b
-        ⊎ (Cut event (answerTo library event s) b i
-        ⊎ (((w : ℕ) × (event ≡ store b i w))
-        ⊎ (lastStored library (next run event allowed) (numberAfter event (answerTo library event s) b) i ≡ some v)))
+        → Fate event (answerTo library event s) b i (lastStored library (next run event allowed) (numberAfter event (answerTo library event s) b) i ≡ some v)
 
   abbrev pub Remembers : Type 0
   Remembers = (n : ℕ) (s : State) (run : Run library n s) → Memory n s run

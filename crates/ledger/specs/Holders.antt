@@ -31,6 +31,13 @@ Ended event answer b = (answer .code ≡ 0) × ((effect event ≡ frees b) ⊎ (
 abbrev pub Cut : Event → Answer → ℕ → ℕ → Type 0
 Cut event answer b i = (answer .code ≡ 0) × (effect event ≡ regrants b) × (told answer .granted ≤ i)
 
+-- what an event makes of place `i` of block `b`: the block ends, is cut below the place, the place is stored to, or what is `Still` so goes on
+pub data Fate (event : Event) (answer : Answer) (b i : ℕ) (Still : Type 0) : Type 0 where
+  ended : Ended event answer b → Fate event answer b i Still
+  cut : Cut event answer b i → Fate event answer b i Still
+  stored : (w : ℕ) → event ≡ store b i w → Fate event answer b i Still
+  kept : Still → Fate event answer b i Still
+
 -- the word at place `i` of block `b`, where `old` was there: what an event stores to that very place, otherwise `old`
 abbrev pub wordAfter : Event → ℕ → ℕ → ℕ → ℕ
 wordAfter (call c) b i old = old

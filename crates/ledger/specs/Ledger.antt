@@ -8,7 +8,7 @@ use lib.ListN.{getD}
 use lib.Dec.{leb, eqb}
 use Rattle.layout.specs.Numbers.{headerWords}
 use Rattle.arena.specs.Answers.{Answer}
-use Rattle.ledger.specs.Events.{Call, start, alloc, free, realloc, size, view, report, Event, call, store}
+use Rattle.ledger.specs.Events.{start, alloc, free, realloc, size, view, report, Event, call, store}
 
 -- a block's number and its granted words
 pub record Entry : Type 0 where

@@ -5,8 +5,8 @@ use mathlib.Core.Bool.{true}
 use mathlib.Core.List.{List, []}
 use lib.ListN.{length}
 use Rattle.layout.specs.Numbers.{lawful}
-use Rattle.arena.specs.Answers.{Answer, Outcome}
-use Rattle.ledger.specs.Events.{Call, start, Event, call, store, Library, happens}
+use Rattle.arena.specs.Answers.{Answer}
+use Rattle.ledger.specs.Events.{start, Event, call, store, Library, happens}
 use Rattle.ledger.specs.Ledger.{Ledger, ledgerAfter, Held}
 
 pub record State : Type 0 where
