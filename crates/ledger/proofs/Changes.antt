@@ -1,6 +1,5 @@
 -- A list of chunks in which some are replaced, and what the ledger of its blocks becomes: a grant, a free, a block that stays and a block that moves.
 use mathlib.Core.Path.{_≡_, refl, ap}
-use mathlib.Core.Logic.{_⊎_, inl, inr}
 use mathlib.Core.Bool.{Bool, true, false, cond}
 use mathlib.Core.List.{List, [], _∷_, _++_}
 use Prim.Native.Nat.{ℕ, _+_, _-_, _≤_}
@@ -9,9 +8,9 @@ use Rattle.layout.specs.Numbers.{firstChunk, headerWords}
 use Rattle.layout.specs.Chunks.{Chunk, free, live, total}
 use Rattle.layout.proofs.Holds.{Sizes}
 use Rattle.arena.specs.Rules.{splits, taken, cut, trim}
-use Rattle.ledger.specs.Ledger.{Entry, enter, strike, Listed, Unlisted}
+use Rattle.ledger.specs.Ledger.{Entry, enter, strike}
 use Rattle.ledger.proofs.Blocks.{entryAt, blocksFrom, blocks-around, Laid, blocks-laid}
-use Rattle.ledger.proofs.Entries.{listed-append, laid-listed, enter-at, strike-at}
+use Rattle.ledger.proofs.Entries.{enter-at, strike-at}
 
 -- ---- the blocks of what a rule puts in
 
@@ -75,13 +74,3 @@ module _ (pre post : List Chunk) (z : Sizes pre) (y : Sizes post) (d e : ℕ) (a
         other,
       )
       (enter-at firstChunk d (blocksFrom firstChunk pre) under e (e + total post) (blocksFrom e post) over g lo′ hi′)
-
-  -- where it has no block, no block's number lies there
-  pub fresh : (old : List Chunk) (b : ℕ) → e ≡ d + total old → blocksFrom d old ≡ [] → d + headerWords ≤ b → b ≤ e
-      → Unlisted (blocksFrom firstChunk (pre ++ (old ++ post))) b
-  fresh old b to none lo hi g l q =
-      go (listed-append (blocksFrom firstChunk pre) (blocksFrom e post) g (rw (blocks-around firstChunk pre old post d e at to, none) at l))
-    where
-      go : Listed (blocksFrom firstChunk pre) g ⊎ Listed (blocksFrom e post) g → ⊥
-      go (inl m) = omega (arith, laid-listed firstChunk d (blocksFrom firstChunk pre) g under m)
-      go (inr m) = omega (arith, laid-listed e (e + total post) (blocksFrom e post) g over m)

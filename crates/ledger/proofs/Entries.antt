@@ -71,15 +71,6 @@ module _ (b : ℕ) where
       go false p (inl q) r = (λ h. eqb-false (f .block) b p (ap (λ (h : Entry). h .block) q ∙ h), inl q)
       go false p (inr l) r = let t = r l in (t .0, inr (t .1))
 
-pub listed-append : (es fs : Ledger) (g : Entry) → Listed (es ++ fs) g → Listed es g ⊎ Listed fs g
-listed-append [] fs g l = inr l
-listed-append (e ∷ es) fs g (inl q) = inl (inl q)
-listed-append (e ∷ es) fs g (inr l) = go (listed-append es fs g l)
-  where
-    go : Listed es g ⊎ Listed fs g → Listed (e ∷ es) g ⊎ Listed fs g
-    go (inl m) = inl (inr m)
-    go (inr m) = inr m
-
 -- ---- entries that lie one after another
 
 pub laid-within : (c d : ℕ) (es : Ledger) → Laid c d es → c ≤ d

@@ -1,6 +1,6 @@
 -- Runs that are there, computed: that of document 01's table, and its move.
 use Prim.Native.Nat.{ℕ}
-use mathlib.Core.Path.{_≡_, refl}
+use mathlib.Core.Path.{_≡_, refl, ap}
 use mathlib.Core.Logic.{inl}
 use mathlib.Core.Option.{none, some}
 use mathlib.Core.List.{List, [], _∷_, _++_, map}
@@ -15,6 +15,7 @@ use Rattle.arena.specs.Rules.{joined, copied}
 use Rattle.arena.specs.Calls.{startOn, allocBy, freeOn, reallocOn, reportOn}
 use Rattle.ledger.specs.Events.{Call, start, alloc, free, realloc, report, Event, call, store, ours}
 use Rattle.ledger.specs.Ledger.{Entry, enter, strike}
+use Rattle.ledger.specs.Gaps.{gaps}
 use Rattle.ledger.specs.Runs.{State, Allowed, after, Run, begun, next}
 use Rattle.ledger.specs.Holders.{lastStored}
 
@@ -101,6 +102,17 @@ table-answers = refl
 pub table-ledger : afterAll (map call rowCalls) fresh .ledger ≡ entry 4 4 ∷ entry 10 14 ∷ entry 26 6 ∷ []
 unfolding startOn allocBy freeOn reallocOn reportOn arenaGate requestGate sound chunksOf walked walkFrom walk meet lowest joined copied written write header enter strike
 table-ledger = refl
+
+-- what the first five rows leave: blocks 10 and 26, and the gaps below, between and above them
+abbrev pub fifth : State
+fifth = afterAll (map call (take 5 rowCalls)) fresh
+
+pub fifth-ledger : fifth .ledger ≡ entry 10 10 ∷ entry 26 6 ∷ []
+unfolding startOn allocBy freeOn reallocOn reportOn arenaGate requestGate sound chunksOf walked walkFrom walk meet lowest joined copied written write header enter strike
+fifth-ledger = refl
+
+pub fifth-gaps : gaps 32 (fifth .ledger) ≡ 6 ∷ 4 ∷ 0 ∷ []
+fifth-gaps = ap (gaps 32) fifth-ledger
 
 -- ---- the move of document 01, where the holder stores two words first
 

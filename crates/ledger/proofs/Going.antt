@@ -5,7 +5,7 @@ use Prim.Native.Nat.{ℕ, _+_, _-_, _≤_, _<_}
 use native.Mathlib.Omega.{arith}
 use lib.ListN.{length, getD}
 use Rattle.layout.specs.Numbers.{firstChunk, headerWords}
-use Rattle.layout.specs.Chunks.{Chunk, free as gap, live, total, written}
+use Rattle.layout.specs.Chunks.{Chunk, free, live, total, written}
 use Rattle.layout.specs.Walk.{chunksOf}
 use Rattle.layout.proofs.Holds.{Sizes, Lawful, sizes-split}
 use Rattle.layout.proofs.Inside.{inside-kept}
@@ -18,8 +18,9 @@ use Rattle.arena.proofs.Taking.{cut-lawful}
 use Rattle.arena.proofs.Moving.{cut-numbers}
 use Rattle.arena.proofs.Keeping.{chunks-lawful, freed-lawful, trimmed-lawful}
 use Rattle.ledger.specs.Ledger.{Entry, Ledger, enter, strike, Listed, Unlisted}
-use Rattle.ledger.proofs.Blocks.{entryAt, blocksFrom, blocks-joined, chunked, listed-split}
-use Rattle.ledger.proofs.Changes.{cut-blocks, trim-blocks, trim-total, enters, leaves, replaces, fresh}
+use Rattle.ledger.proofs.Blocks.{entryAt, blocksFrom, blocks-joined, Laid, blocks-laid, chunked, listed-split}
+use Rattle.ledger.proofs.Entries.{laid-fresh}
+use Rattle.ledger.proofs.Changes.{cut-blocks, trim-blocks, trim-total, enters, leaves, replaces}
 use Rattle.ledger.proofs.Agreeing.{Agrees}
 
 -- the words `a` with `ledger` become the words `after` with `then`; a block goes on under the number that `renamed` gives
@@ -53,7 +54,7 @@ written-goes n a ledger renamed ks then long l are same =
 pub stay-goes : (n : ℕ) (a : List ℕ) (ledger : Ledger) → Agrees n a ledger → Goes n a ledger (λ b. b) a ledger
 stay-goes n a ledger g = record { agrees = g; keeps = λ e f m k p i h j. ap (λ (b : ℕ). getD a (b + i) 0) p }
 
--- ---- a block of a sound arena, between `pre` and `post`
+-- ---- a block between `pre` and `post`
 
 module _ (n : ℕ) (a : List ℕ) (ledger : Ledger) (g : Agrees n a ledger) where
   -- the ledger, where the arena has these chunks
@@ -68,15 +69,15 @@ module _ (n : ℕ) (a : List ℕ) (ledger : Ledger) (g : Agrees n a ledger) wher
 
   -- it is freed
   pub freed-goes : (b : ℕ) (pre : List Chunk) (s : ℕ) (post : List Chunk) → BlockAt a b pre s post
-      → Goes n a ledger (λ c. c) (written (joined (pre ++ gap s ∷ post)) a) (strike b ledger)
+      → Goes n a ledger (λ c. c) (written (joined (pre ++ free s ∷ post)) a) (strike b ledger)
   freed-goes b pre s post is =
       let d : ℕ = firstChunk + total pre in
       let (y, z, x) = sizes-as pre (live s ∷ []) post (is .same) in
-      let l = leaves pre post y x d (d + s) refl (live s ∷ []) (gap s ∷ []) (entryAt d s) (omega arith) (omega arith) refl refl (omega arith) (omega (arith, z .1)) in
-      written-goes n a ledger (λ c. c) (joined (pre ++ gap s ∷ post)) (strike b ledger) (g .long) (freed-lawful a (g .is-sound) pre s post (is .same))
-      (rw (← is .number-is) (ap (strike (d + headerWords)) (lists-as (pre ++ live s ∷ post) (is .same)) ∙ l ∙ sym (blocks-joined firstChunk (pre ++ gap s ∷ post)))) (λ c. refl)
+      let l = leaves pre post y x d (d + s) refl (live s ∷ []) (free s ∷ []) (entryAt d s) (omega arith) (omega arith) refl refl (omega arith) (omega (arith, z .1)) in
+      written-goes n a ledger (λ c. c) (joined (pre ++ free s ∷ post)) (strike b ledger) (g .long) (freed-lawful a (g .is-sound) pre s post (is .same))
+      (rw (← is .number-is) (ap (strike (d + headerWords)) (lists-as (pre ++ live s ∷ post) (is .same)) ∙ l ∙ sym (blocks-joined firstChunk (pre ++ free s ∷ post)))) (λ c. refl)
 
-  -- it keeps a need of the words of some chunks, `old`, of which it is the first
+  -- it keeps a need of its words and those of `rest`, which stand right after it and have no block
   pub stays-goes : (b : ℕ) (pre : List Chunk) (s : ℕ) (rest post : List Chunk) (words needed : ℕ) (renamed : ℕ → ℕ) → BlockAt a b pre s (rest ++ post) → blocksFrom (firstChunk + total pre + s) rest ≡ []
       → words ≡ s + total rest → Needed needed → needed ≤ words → ((c : ℕ) → renamed c ≡ c)
       → Goes n a ledger renamed (written (joined (pre ++ (trim needed words ++ post))) a) (enter (record { block = b; granted = taken needed words - headerWords }) (strike b ledger))
@@ -93,7 +94,7 @@ module _ (n : ℕ) (a : List ℕ) (ledger : Ledger) (g : Agrees n a ledger) wher
 
   -- ---- a need is granted from any free chunk that fits, between `pre` and `post`
 
-  module _ (pre : List Chunk) (s : ℕ) (post : List Chunk) (needed : ℕ) (same : chunksOf a ≡ pre ++ gap s ∷ post) (nd : Needed needed) (enough : needed ≤ s) where
+  module _ (pre : List Chunk) (s : ℕ) (post : List Chunk) (needed : ℕ) (same : chunksOf a ≡ pre ++ free s ∷ post) (nd : Needed needed) (enough : needed ≤ s) where
     -- the new block
     abbrev pub newEntry : Entry
     newEntry = entryAt (firstChunk + total pre + (s - taken needed s)) (taken needed s)
@@ -101,23 +102,21 @@ module _ (n : ℕ) (a : List ℕ) (ledger : Ledger) (g : Agrees n a ledger) wher
     pub granted-lists : enter newEntry ledger ≡ blocksFrom firstChunk (pre ++ (cut needed s ++ post))
     granted-lists =
         let d : ℕ = firstChunk + total pre in
-        let (y, z, x) = sizes-as pre (gap s ∷ []) post same in
+        let (y, z, x) = sizes-as pre (free s ∷ []) post same in
         let c = cut-numbers needed s enough in
-        ap (enter newEntry) (lists-as (pre ++ gap s ∷ post) same)
-        ∙ enters pre post y x d (d + s) refl (gap s ∷ []) (cut needed s) newEntry (omega arith) (omega (arith, c .cut-total)) refl (cut-blocks needed s d) (omega arith)
+        ap (enter newEntry) (lists-as (pre ++ free s ∷ post) same)
+        ∙ enters pre post y x d (d + s) refl (free s ∷ []) (cut needed s) newEntry (omega arith) (omega (arith, c .cut-total)) refl (cut-blocks needed s d) (omega arith)
         (omega (arith, c .enough, c .within, nd .least))
+
+    pub granted-lawful : Lawful (length a) (pre ++ (cut needed s ++ post))
+    granted-lawful = cut-lawful (length a) needed pre s post (chunks-lawful a (g .is-sound) (pre ++ free s ∷ post) same) nd enough
+
+    pub granted-laid : Laid firstChunk n (enter newEntry ledger)
+    granted-laid = rw granted-lists (blocks-laid firstChunk (pre ++ (cut needed s ++ post)) n (sym (granted-lawful .fills ∙ g .long)) (granted-lawful .sizes))
 
     -- no block of the ledger has its number
     pub granted-fresh : Unlisted ledger (newEntry .block)
-    granted-fresh f l =
-        let d : ℕ = firstChunk + total pre in
-        let (y, z, x) = sizes-as pre (gap s ∷ []) post same in
-        let c = cut-numbers needed s enough in
-        fresh pre post y x d (d + s) refl (gap s ∷ []) (newEntry .block) (omega arith) refl (omega arith) (omega (arith, c .enough, c .within, nd .least)) f
-        (rw (lists-as (pre ++ gap s ∷ post) same) at l)
-
-    pub granted-lawful : Lawful (length a) (pre ++ (cut needed s ++ post))
-    granted-lawful = cut-lawful (length a) needed pre s post (chunks-lawful a (g .is-sound) (pre ++ gap s ∷ post) same) nd enough
+    granted-fresh = laid-fresh firstChunk n newEntry ledger granted-laid
 
     pub granted-goes : Goes n a ledger (λ c. c) (written (pre ++ (cut needed s ++ post)) a) (enter newEntry ledger)
     granted-goes = written-goes n a ledger (λ c. c) (pre ++ (cut needed s ++ post)) (enter newEntry ledger) (g .long) granted-lawful granted-lists (λ c. refl)

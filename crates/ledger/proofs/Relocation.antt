@@ -9,7 +9,7 @@ use lib.Dec.{eqb}
 use lib.ListN.{getD}
 use borrow.Author.Tests.{eqb-true}
 use Rattle.layout.specs.Numbers.{firstChunk, headerWords}
-use Rattle.layout.specs.Chunks.{Chunk, free, total, written}
+use Rattle.layout.specs.Chunks.{Chunk, free, written}
 use Rattle.layout.specs.Walk.{chunksOf}
 use Rattle.layout.proofs.Written.{length-written}
 use Rattle.arena.specs.Spots.{held}
@@ -20,10 +20,10 @@ use Rattle.arena.proofs.Copying.{length-copied, copied-other, copied-there}
 use Rattle.arena.proofs.Moving.{cut-numbers}
 use Rattle.arena.proofs.Relocating.{Relocated}
 use Rattle.ledger.specs.Ledger.{Entry, Ledger, enter, strike, Listed, ends}
-use Rattle.ledger.proofs.Blocks.{blocksFrom, Laid, blocks-laid}
+use Rattle.ledger.proofs.Blocks.{blocksFrom, Laid}
 use Rattle.ledger.proofs.Entries.{enter-listed, listed-enter, listed-struck, laid-listed, laid-order, strike-enter}
 use Rattle.ledger.proofs.Agreeing.{Agrees, agrees-laid, block-listed}
-use Rattle.ledger.proofs.Going.{Goes, written-listed, freed-goes, newEntry, granted-lists, granted-fresh, granted-lawful}
+use Rattle.ledger.proofs.Going.{Goes, written-listed, freed-goes, newEntry, granted-lists, granted-laid, granted-fresh, granted-lawful}
 
 module _ (n : ℕ) (a : List ℕ) (ledger : Ledger) (g : Agrees n a ledger)
     (b : ℕ) (pre : List Chunk) (s : ℕ) (post : List Chunk) (is : BlockAt a b pre s post)
@@ -44,8 +44,8 @@ module _ (n : ℕ) (a : List ℕ) (ledger : Ledger) (g : Agrees n a ledger)
   both-lists : both ≡ blocksFrom firstChunk granted
   both-lists = granted-lists n a ledger g before t after needed same nd enough
 
-  both-laid : Laid firstChunk (firstChunk + total granted) both
-  both-laid = rw both-lists (blocks-laid firstChunk granted (firstChunk + total granted) refl (granted-lawful n a ledger g before t after needed same nd enough .sizes))
+  both-laid : Laid firstChunk n both
+  both-laid = granted-laid n a ledger g before t after needed same nd enough
 
   -- a word of a block of both, before the copy
   before-copy : (e : Entry) → Listed both e → (i : ℕ) → i < e .granted → getD (written granted a) (e .block + i) 0 ≡ getD a (e .block + i) 0
@@ -78,10 +78,9 @@ module _ (n : ℕ) (a : List ℕ) (ledger : Ledger) (g : Agrees n a ledger)
     -- the old block has all its words in the new one
     copied-new : (e : Entry) → Listed ledger e → e .block ≡ b → (i : ℕ) → i < e .granted → getD there (new .block + i) 0 ≡ getD a (e .block + i) 0
     copied-new e l q i h =
-        let w = granted-lawful n a ledger g before t after needed same nd enough in
-        let m : ends new ≤ firstChunk + total granted = laid-listed firstChunk (firstChunk + total granted) both new both-laid (enter-listed new ledger) .1 in
+        let m : ends new ≤ n = laid-listed firstChunk n both new both-laid (enter-listed new ledger) .1 in
         let f : e .granted ≡ s - headerWords = all (laid-order firstChunk n ledger e _ (agrees-laid n a ledger g) l old-listed) in
-        copied-there b (new .block) (written granted a) (s - headerWords) i (omega arith) (rw length-written (omega (arith, w .fills, room)))
+        copied-there b (new .block) (written granted a) (s - headerWords) i (omega arith) (rw length-written (omega (arith, g .long, room)))
         ∙ ap (λ (c : ℕ). getD (written granted a) (c + i) 0) (sym q)
         ∙ before-copy e (listed-enter new ledger e l) i h
       where
@@ -93,7 +92,7 @@ module _ (n : ℕ) (a : List ℕ) (ledger : Ledger) (g : Agrees n a ledger)
     -- every other block is left alone
     copied-beside : (f : Entry) → Listed both f → f .block ≢ new .block → (i : ℕ) → i < f .granted → getD there (f .block + i) 0 ≡ getD a (f .block + i) 0
     copied-beside f l q i h =
-        copied-other b (new .block) (written granted a) (s - headerWords) (f .block + i) (beside (laid-order firstChunk (firstChunk + total granted) both f new both-laid l (enter-listed new ledger)))
+        copied-other b (new .block) (written granted a) (s - headerWords) (f .block + i) (beside (laid-order firstChunk n both f new both-laid l (enter-listed new ledger)))
         ∙ before-copy f l i h
       where
         beside : (f ≡ new) ⊎ ((ends f + headerWords ≤ new .block) ⊎ (ends new + headerWords ≤ f .block)) → (f .block + i < new .block) ⊎ (new .block + (s - headerWords) ≤ f .block + i)
