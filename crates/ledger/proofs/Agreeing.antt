@@ -20,21 +20,6 @@ pub record Agrees (n : ℕ) (a : List ℕ) (ledger : Ledger) : Type 0 where
   pub long : length a ≡ n
   pub lists : ledger ≡ blocksOf a
 
--- the blocks lie one after another, from the first chunk on and up to the end
-pub agrees-laid : (n : ℕ) (a : List ℕ) (ledger : Ledger) → Agrees n a ledger → Laid firstChunk n ledger
-agrees-laid n a ledger g =
-    let l = sound-chunks a (g .is-sound) .law in
-    rw (g .lists) (blocks-laid firstChunk (chunksOf a) n (sym (l .fills ∙ g .long)) (l .sizes))
-
--- a block of the arena is in the ledger
-pub block-listed : (n : ℕ) (a : List ℕ) (ledger : Ledger) → Agrees n a ledger → (b : ℕ) (pre : List Chunk) (s : ℕ) (post : List Chunk) → BlockAt a b pre s post
-    → Listed ledger (record { block = b; granted = s - headerWords })
-block-listed n a ledger g b pre s post is =
-    let q = g .lists ∙ ap (blocksFrom firstChunk) (is .same) ∙ blocks-append firstChunk pre (live s ∷ post) (firstChunk + total pre) refl in
-    rw (← is .number-is, q) (listed-at (blocksFrom firstChunk pre) (entryAt (firstChunk + total pre) s) (blocksFrom (firstChunk + total pre + s) post))
-
--- ---- an entry of the ledger is a block of the arena
-
 -- entry `e` is that of the live chunk of `s` words between `pre` and `post`
 pub record Block (a : List ℕ) (e : Entry) : Type 0 where
   pub pre : List Chunk
@@ -50,6 +35,12 @@ module _ (n : ℕ) (a : List ℕ) (ledger : Ledger) (g : Agrees n a ledger) wher
   pub agrees-lawful : Lawful n (chunksOf a)
   agrees-lawful = rw (g .long) at (sound-chunks a (g .is-sound) .law)
 
+  -- the blocks lie one after another, from the first chunk on and up to the end
+  pub agrees-laid : Laid firstChunk n ledger
+  agrees-laid = rw (g .lists) (blocks-laid firstChunk (chunksOf a) n (sym (agrees-lawful .fills)) (agrees-lawful .sizes))
+
+  -- ---- an entry of the ledger is a block of the arena
+
   -- an entry between others is a live chunk between others
   pub agrees-chunked : (below : Ledger) (e : Entry) (above : Ledger) → ledger ≡ below ++ e ∷ above → Chunked firstChunk (chunksOf a) below e above
   agrees-chunked below e above q = chunked firstChunk (chunksOf a) below e above (sym (g .lists) ∙ q)
@@ -60,9 +51,16 @@ module _ (n : ℕ) (a : List ℕ) (ledger : Ledger) (g : Agrees n a ledger) wher
       let k = agrees-chunked below e above q in
       record { pre = k .pre; s = k .s; post = k .post; stands = chunked-block k; granted-is = ap (λ (f : Entry). f .granted) (k .is) }
 
+  -- ---- a block of the arena is an entry of the ledger
+
+  pub block-listed : (b : ℕ) (pre : List Chunk) (s : ℕ) (post : List Chunk) → BlockAt a b pre s post → Listed ledger (record { block = b; granted = s - headerWords })
+  block-listed b pre s post is =
+      let q = g .lists ∙ ap (blocksFrom firstChunk) (is .same) ∙ blocks-append firstChunk pre (live s ∷ post) (firstChunk + total pre) refl in
+      rw (← is .number-is, q) (listed-at (blocksFrom firstChunk pre) (entryAt (firstChunk + total pre) s) (blocksFrom (firstChunk + total pre + s) post))
+
   -- a number that no entry has is no block's, and the other way round
   pub unlisted-block : (b : ℕ) → NoBlock a b ↔ Unlisted ledger b
   unlisted-block b = (
     λ none e l q. let k = listed-block e l in none (k .pre) (k .s) (k .post) (record { same = k .stands .same; number-is = k .stands .number-is ∙ q }),
-    λ un pre s post is. un (record { block = b; granted = s - headerWords }) (block-listed n a ledger g b pre s post is) refl,
+    λ un pre s post is. un (record { block = b; granted = s - headerWords }) (block-listed b pre s post is) refl,
   )

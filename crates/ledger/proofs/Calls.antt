@@ -24,7 +24,7 @@ use Rattle.ledger.specs.Events.{Call, start, alloc, free, realloc, size,
 use Rattle.ledger.specs.Ledger.{Ledger, grants, frees, regrants, effect, noted, ledgerAfter}
 use Rattle.ledger.specs.Holders.{renamed, numberAfter}
 use Rattle.ledger.proofs.Agreeing.{Agrees}
-use Rattle.ledger.proofs.Going.{Goes, stay-goes, written-goes, freed-goes, stays-goes, granted-goes}
+use Rattle.ledger.proofs.Going.{Goes, unchanged-goes, written-goes, freed-goes, stays-goes, granted-goes}
 use Rattle.ledger.proofs.Relocation.{moved-goes}
 
 -- a call on the words `a` that came to this outcome
@@ -36,7 +36,7 @@ CallGoes n a ledger c outcome =
 case-goes : {fields : ℕ} {n : ℕ} {a : List ℕ} {ledger : Ledger} {Refuses : Reason → Type 0} {Does : List ℕ → List ℕ → Type 0} {outcome : Outcome} (c : Call) → Agrees n a ledger
     → ((values after : List ℕ) → Does values after → Goes n a ledger (renamed (effect (call c)) (success values)) after (noted (effect (call c)) (success values) ledger))
     → Case fields a Refuses Does outcome → CallGoes n a ledger c outcome
-case-goes {n = n} {a = a} {ledger = ledger} c g f (refuses why r) = rw (ne-eqb (number why) 0 (omega (arith, number-positive why))) (stay-goes n a ledger g)
+case-goes {n = n} {a = a} {ledger = ledger} c g f (refuses why r) = rw (ne-eqb (number why) 0 (omega (arith, number-positive why))) (unchanged-goes n a ledger g)
 case-goes c g f (does {values} {after} d) = f values after d
 
 module _ (n : ℕ) (a : List ℕ) (ledger : Ledger) (g : Agrees n a ledger) where
@@ -71,10 +71,10 @@ module _ (n : ℕ) (a : List ℕ) (ledger : Ledger) (g : Agrees n a ledger) wher
       (relocated a (need w) pre s post before t behind b _ _ e (needed w r) is fit (l .own) refl refl))
 
   size-done : (b : ℕ) (values after : List ℕ) → Measures a b values after → Goes n a ledger (λ c. c) after ledger
-  size-done b values after (measures e pre s post is) = stay-goes n a ledger g
+  size-done b values after (measures e pre s post is) = unchanged-goes n a ledger g
 
   report-done : (values after : List ℕ) → Reports a values after → Goes n a ledger (λ c. c) after ledger
-  report-done values after (reports e) = stay-goes n a ledger g
+  report-done values after (reports e) = unchanged-goes n a ledger g
 
   pub call-goes : (c : Call) → CallGoes n a ledger c (ours c a)
   call-goes start = case-goes start g start-done (start-case a)
@@ -82,5 +82,5 @@ module _ (n : ℕ) (a : List ℕ) (ledger : Ledger) (g : Agrees n a ledger) wher
   call-goes (free b) = case-goes (free b) g (free-done b) (free-case a b)
   call-goes (realloc b w) = case-goes (realloc b w) g (realloc-done b w) (realloc-case a b w)
   call-goes (size b) = case-goes (size b) g (size-done b) (size-case a b)
-  call-goes (view b) = stay-goes n a ledger g
+  call-goes (view b) = unchanged-goes n a ledger g
   call-goes report = case-goes report g report-done (report-case a)

@@ -56,20 +56,21 @@ ledger-goes-on library n s run event allowed e l = onward (s .ledger) e l event 
 -- ---- a note of a held place
 
 -- what is noted of place `i` of block `b` after an event that was done was noted before it, of the block that goes on as `b`, and `b` is held
-pub record Carried (c : Effect) (answer : Answer) (ledger : Ledger) (notes : Notes) (b i v : ℕ) : Type 0 where
+pub record Carried (what : Effect) (answer : Answer) (ledger : Ledger) (notes : Notes) (b i v : ℕ) : Type 0 where
   pub was : ℕ
   pub noted-there : notes was i ≡ some v
-  pub becomes : b ≡ renamed c answer was
-  pub still-held : Held (noted c answer ledger) b i
+  pub becomes : b ≡ renamed what answer was
+  pub still-held : Held (noted what answer ledger) b i
 
 module _ (answer : Answer) (ledger : Ledger) (notes : Notes) (b i v : ℕ) (held : notes b i ≡ some v → Held ledger b i) where
   -- a block that keeps its number, and its entry
-  kept-note : (c : Effect) → notes b i ≡ some v → b ≡ renamed c answer b → ((e : Entry) → Listed ledger e → e .block ≡ b → Listed (noted c answer ledger) e) → Carried c answer ledger notes b i v
-  kept-note c q same stays =
+  kept-note : (what : Effect) → notes b i ≡ some v → b ≡ renamed what answer b → ((e : Entry) → Listed ledger e → e .block ≡ b → Listed (noted what answer ledger) e)
+      → Carried what answer ledger notes b i v
+  kept-note what q same stays =
       let (e, l, p, h) = held q in
       record { was = b; noted-there = q; becomes = same; still-held = (e, stays e l p, p, h) }
 
-  pub carried-note : (c : Effect) → carried c answer notes b i ≡ some v → Carried c answer ledger notes b i v
+  pub carried-note : (what : Effect) → carried what answer notes b i ≡ some v → Carried what answer ledger notes b i v
   carried-note empties q = absurd (Option·none-ne-some v q)
   carried-note grants q = kept-note grants q refl (λ e l p. listed-enter (told answer) ledger e l)
   carried-note (frees c) q = go (eqb b c) refl q

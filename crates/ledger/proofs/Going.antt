@@ -51,8 +51,8 @@ written-goes n a ledger renamed ks then long l are same =
     }
 
 -- words and ledger stay
-pub stay-goes : (n : ℕ) (a : List ℕ) (ledger : Ledger) → Agrees n a ledger → Goes n a ledger (λ b. b) a ledger
-stay-goes n a ledger g = record { agrees = g; keeps = λ e f m k p i h j. ap (λ (b : ℕ). getD a (b + i) 0) p }
+pub unchanged-goes : (n : ℕ) (a : List ℕ) (ledger : Ledger) → Agrees n a ledger → Goes n a ledger (λ b. b) a ledger
+unchanged-goes n a ledger g = record { agrees = g; keeps = λ e f m k p i h j. ap (λ (b : ℕ). getD a (b + i) 0) p }
 
 -- ---- a block between `pre` and `post`
 

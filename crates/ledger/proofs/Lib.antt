@@ -1,3 +1,4 @@
+-- The laws of ledgers and of runs, and demand 3.
 pub mod Blocks
 pub mod Entries
 pub mod Changes

@@ -11,13 +11,12 @@ use lib.Seq.{getD-set-same, getD-set-other}
 use borrow.Author.Tests.{eqb-true, eqb-false}
 use Rattle.layout.specs.Numbers.{firstChunk, headerWords}
 use Rattle.layout.specs.Chunks.{live, total}
-use Rattle.layout.specs.Walk.{chunksOf}
 use Rattle.layout.proofs.Inside.{store-inside}
 use Rattle.layout.proofs.Round.{sound-chunks, arena-sound, arena-chunks}
 use Rattle.ledger.specs.Ledger.{Entry, Ledger, Listed, ends, Held}
-use Rattle.ledger.proofs.Blocks.{blocksFrom, chunked, listed-split}
+use Rattle.ledger.proofs.Blocks.{blocksFrom}
 use Rattle.ledger.proofs.Entries.{laid-listed, laid-order}
-use Rattle.ledger.proofs.Agreeing.{Agrees, agrees-laid}
+use Rattle.ledger.proofs.Agreeing.{Agrees, agrees-laid, listed-block}
 
 module _ (n : ℕ) (a : List ℕ) (ledger : Ledger) (g : Agrees n a ledger) where
   -- a word of the blocks is at one place of one of them
@@ -34,16 +33,15 @@ module _ (n : ℕ) (a : List ℕ) (ledger : Ledger) (g : Agrees n a ledger) wher
     pub store-agrees : Agrees n (set a (b + i) v) ledger
     store-agrees =
         let (e, l, q, h) = held in
-        let (below, above, p) = listed-split ledger e l in
-        let r = chunked firstChunk (chunksOf a) below e above (sym (g .lists) ∙ p) in
-        let block : e .block ≡ firstChunk + total (r .pre) + headerWords = ap (λ (d : Entry). d .block) (r .is) in
-        let words : e .granted ≡ r .s - headerWords = ap (λ (d : Entry). d .granted) (r .is) in
-        let arena = rw (r .same) at (sound-chunks a (g .is-sound)) in
-        let stored = store-inside a (r .pre) (live (r .s)) (r .post) (firstChunk + total (r .pre)) (b + i) arena refl (omega arith) (omega arith) v in
+        let k = listed-block n a ledger g e l in
+        let block : firstChunk + total (k .pre) + headerWords ≡ e .block = k .stands .number-is in
+        let words : e .granted ≡ k .s - headerWords = k .granted-is in
+        let arena = rw (k .stands .same) at (sound-chunks a (g .is-sound)) in
+        let stored = store-inside a (k .pre) (live (k .s)) (k .post) (firstChunk + total (k .pre)) (b + i) arena refl (omega arith) (omega arith) v in
         record {
           is-sound = arena-sound _ _ stored;
           long = length-set a (b + i) v ∙ g .long;
-          lists = g .lists ∙ ap (blocksFrom firstChunk) (r .same ∙ sym (arena-chunks _ _ stored));
+          lists = g .lists ∙ ap (blocksFrom firstChunk) (k .stands .same ∙ sym (arena-chunks _ _ stored));
         }
 
     pub store-there : getD (set a (b + i) v) (b + i) 0 ≡ v
