@@ -1,13 +1,19 @@
 -- Demand 3 of our calls, over every run.
 use native.Mathlib.Omega.{arith}
+use mathlib.Core.Path.{sym, _∙_}
+use mathlib.Core.Bool.{true≢false}
+use Rattle.arena.proofs.Reasons.{start-done}
 use Rattle.ledger.specs.Events.{ours}
-use Rattle.ledger.specs.Demands.{Lengths, Apart, Inside, GoesOn, Keeps, Lasts, Remembers, Sums, RoomForAlloc, RoomForRealloc, Known}
+use Rattle.ledger.specs.Demands.{Starts, Lengths, Apart, Inside, GoesOn, Keeps, Lasts, Remembers, Sums, RoomForAlloc, RoomForRealloc, Known}
 use Rattle.ledger.proofs.Rooms.{alloc-room, realloc-room}
 use Rattle.ledger.proofs.Telling.{lies-apart, lies-inside, adds-up, tells}
 use Rattle.ledger.proofs.Runs.{run-agrees, event-keeps}
 use Rattle.ledger.proofs.Following.{ledger-goes-on}
 use Rattle.ledger.proofs.Lasting.{run-lasts}
 use Rattle.ledger.proofs.Remembering.{memory}
+
+pub starts : Starts ours
+starts a l = start-done a .1 (λ why h. true≢false (sym l ∙ h .1))
 
 pub lengths : Lengths ours
 lengths n s run = run-agrees run .long

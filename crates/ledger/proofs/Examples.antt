@@ -104,14 +104,11 @@ unfolding startOn allocBy freeOn reallocOn reportOn arenaGate requestGate sound 
 table-ledger = refl
 
 -- what the first five rows leave: blocks 10 and 26, and the gaps below, between and above them
-abbrev pub fifth : State
-fifth = afterAll (map call (take 5 rowCalls)) fresh
-
-pub fifth-ledger : fifth .ledger ≡ entry 10 10 ∷ entry 26 6 ∷ []
+pub fifth-ledger : afterAll (map call (take 5 rowCalls)) fresh .ledger ≡ entry 10 10 ∷ entry 26 6 ∷ []
 unfolding startOn allocBy freeOn reallocOn reportOn arenaGate requestGate sound chunksOf walked walkFrom walk meet lowest joined copied written write header enter strike
 fifth-ledger = refl
 
-pub fifth-gaps : gaps 32 (fifth .ledger) ≡ 6 ∷ 4 ∷ 0 ∷ []
+pub fifth-gaps : gaps 32 (afterAll (map call (take 5 rowCalls)) fresh .ledger) ≡ 6 ∷ 4 ∷ 0 ∷ []
 fifth-gaps = ap (gaps 32) fifth-ledger
 
 -- ---- the move of document 01, where the holder stores two words first

@@ -21,7 +21,7 @@ use Rattle.arena.proofs.Moving.{cut-numbers}
 use Rattle.arena.proofs.Cases.{Case, refuses, does, Allots, allots, alloc-case}
 use Rattle.arena.proofs.Regranting.{Regrants, shrinks, grows, moves, realloc-case}
 use Rattle.arena.proofs.Corners.{view-empty}
-use Rattle.arena.proofs.Reasons.{start-done, start-refused, alloc-refused, free-refused, realloc-refused, size-refused, report-refused}
+use Rattle.arena.proofs.Reasons.{start-refused, alloc-refused, free-refused, realloc-refused, size-refused, report-refused}
 use Rattle.ledger.specs.Events.{Call, start, alloc, free, realloc, size, view, report, ours}
 use Rattle.ledger.specs.Ledger.{Entry, Ledger, told, Listed, Unlisted, begins, ends, Covers, heldWords}
 use Rattle.ledger.specs.Demands.{Tells}
@@ -116,7 +116,6 @@ module _ (n : ℕ) (a : List ℕ) (ledger : Ledger) (agrees : Agrees n a ledger)
       record {
         never-length = λ c e. true≢false (sym (sound-lawful a (agrees .is-sound)) ∙ gate-refused a c .0 e);
         never-damaged = λ c e. true≢false (sym (agrees .is-sound) ∙ gate-refused a c .1 e);
-        start-done = start-done a .1 (λ why h. true≢false (sym (sound-lawful a (agrees .is-sound)) ∙ h .1));
         alloc-enough = λ w. enough-granted w (alloc-grants a w) (alloc-case a w);
         free-listed = freed;
         realloc-enough = λ b w. enough-granted w (realloc-grants a b w) (realloc-case a b w);

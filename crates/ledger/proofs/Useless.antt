@@ -16,7 +16,7 @@ use Rattle.arena.specs.Calls.{startOn, allocOn, allocBy, reallocOn, reportOn}
 use Rattle.ledger.specs.Events.{Call, start, alloc, free, realloc, size, view, report, call, store, Library, ours}
 use Rattle.ledger.specs.Ledger.{Entry, enter, strike, told, begins, ends}
 use Rattle.ledger.specs.Runs.{Run, begun, next}
-use Rattle.ledger.specs.Demands.{Apart, Inside, Keeps, Sums, RoomForAlloc, Known}
+use Rattle.ledger.specs.Demands.{Starts, Apart, Inside, Keeps, Sums, RoomForAlloc, Known}
 
 -- our calls, but for alloc, realloc and report
 abbrev oursBut : (ℕ → List ℕ → Outcome) → (ℕ → ℕ → List ℕ → Outcome) → (List ℕ → Outcome) → Library
@@ -38,6 +38,10 @@ RefusesEverything library = (c : Call) (a : List ℕ) → library c a .answer .c
 pub refuses-everything : (library : Library) → RefusesEverything library → RoomForAlloc library → ⊥
 refuses-everything library refuses room =
     refuses (alloc 2) _ (room 6 _ (begun (replicate 6 0) refl refl) 2 (omega arith) .done .1 (λ short. omega arith))
+
+-- already its start fails
+pub refuses-start : (library : Library) → RefusesEverything library → Starts library → ⊥
+refuses-start library refuses starts = refuses start (replicate 6 0) (starts (replicate 6 0) refl)
 
 -- ---- one that grants block 4 each time
 
@@ -147,3 +151,42 @@ copies-nothing keeps =
     let stored : Run copiesNothing 16 _ = next held (store 10 0 5) ((record { block = 10; granted = 2 }, inl refl, refl, omega arith), omega arith) in
     let lost : _≡_ {A = ℕ} 0 5 = keeps 16 _ stored (call (realloc 10 4)) tt (record { block = 10; granted = 2 }) (record { block = 4; granted = 4 }) (inl refl) (inl refl) refl 0 (omega arith) in
     omega arith
+
+-- ---- one that never frees
+
+-- free is never done, for whatever reasons and whatever it writes
+abbrev pub NeverFrees : Library → Type 0
+NeverFrees library = (b : ℕ) (a : List ℕ) → library (free b) a .answer .code ≢ 0
+
+-- if it keeps the room rule, it does not know its arena: a block that is held can be freed
+pub never-frees : (library : Library) → NeverFrees library → RoomForAlloc library → Known library → ⊥
+unfolding enter
+never-frees library refuses room known =
+    let a = library start (replicate 6 0) .words in
+    let started : Run library 6 _ = begun (replicate 6 0) refl refl in
+    let e = told (library (alloc 2) a .answer) in
+    let done : library (alloc 2) a .answer .code ≡ 0 = room 6 _ started 2 (omega arith) .done .1 (λ short. omega arith) in
+    refuses (e .block) _ (known 6 _ (next started (call (alloc 2)) tt) .free-listed e (rw done (inl refl)))
+
+-- ---- one that grants 2 words whatever is asked
+
+-- an alloc that is done answers 2 granted words, whatever it writes, and whatever the other calls do
+abbrev pub GrantsTwoWords : Library → Type 0
+GrantsTwoWords library = (n : ℕ) (a : List ℕ) → library (alloc n) a .answer .code ≡ 0 → told (library (alloc n) a .answer) .granted ≡ 2
+
+-- if it keeps the room rule, it does not grant enough: a new arena of 8 words has room for 4
+pub grants-two-words : (library : Library) → GrantsTwoWords library → RoomForAlloc library → Known library → ⊥
+grants-two-words library grants room known =
+    let started : Run library 8 _ = begun (replicate 8 0) refl refl in
+    let done = room 8 _ started 4 (omega arith) .done .1 (λ short. omega arith) in
+    omega (arith, grants 4 _ done, known 8 _ started .alloc-enough 4 done)
+
+-- ---- one that hands back words of any number
+
+-- view never answers the empty part
+abbrev pub ViewsEverything : Library → Type 0
+ViewsEverything library = (b : ℕ) (a : List ℕ) → library (view b) a .answer ≢ success []
+
+-- it does not know its arena: a new arena has no block 4
+pub views-everything : (library : Library) → ViewsEverything library → Known library → ⊥
+views-everything library hands known = hands 4 _ (known 6 _ (begun (replicate 6 0) refl refl) .view-unlisted 4 (λ e listed. absurd listed))

@@ -2,10 +2,11 @@
 use Prim.Native.Nat.{ℕ, _+_, _-_, _≤_, _<_, min}
 use mathlib.Core.Path.{_≡_}
 use mathlib.Core.Logic.{_≢_, _↔_, _⊎_}
+use mathlib.Core.Bool.{true}
 use mathlib.Core.Option.{some}
 use mathlib.Core.List.{List, [], _∷_, _++_}
 use lib.ListN.{length, getD, take, drop}
-use Rattle.layout.specs.Numbers.{controlWords, headerWords, greatestRequest, need}
+use Rattle.layout.specs.Numbers.{controlWords, headerWords, lawful, greatestRequest, need}
 use Rattle.layout.specs.Reasons.{number}
 use Rattle.layout.specs.declared.Reason.the-variants.{Length, Damaged, NotABlock, NoRoom}
 use Rattle.arena.specs.Answers.{success}
@@ -25,7 +26,11 @@ pub record RefusedWhen (code : ℕ) (Short : Type 0) : Type 0 where
   pub done : (code ≡ 0) ↔ (Short → ⊥)
 
 module _ (library : Library) where
-  -- an arena keeps its length
+  -- an arena of lawful length can be started, whatever its words are
+  abbrev pub Starts : Type 0
+  Starts = (a : List ℕ) → lawful (length a) ≡ true → library start a .answer .code ≡ 0
+
+  -- it keeps its length
   abbrev pub Lengths : Type 0
   Lengths = (n : ℕ) (s : State) → Run library n s → length (s .words) ≡ n
 
@@ -91,7 +96,6 @@ module _ (library : Library) where
   pub record Tells (a : List ℕ) (ledger : Ledger) : Type 0 where
     pub never-length : (c : Call) → library c a .answer .code ≢ number Length
     pub never-damaged : (c : Call) → library c a .answer .code ≢ number Damaged
-    pub start-done : library start a .answer .code ≡ 0
     pub alloc-enough : (w : ℕ) → library (alloc w) a .answer .code ≡ 0 → w ≤ told (library (alloc w) a .answer) .granted
     pub free-listed : (e : Entry) → Listed ledger e → library (free (e .block)) a .answer .code ≡ 0
     pub free-unlisted : (b : ℕ) → (library (free b) a .answer .code ≡ number NotABlock) ↔ Unlisted ledger b
