@@ -33,9 +33,13 @@ NoBlock a b = (pre : List Chunk) (s : ℕ) (post : List Chunk) → BlockAt a b p
 abbrev pub SomeBlock : List ℕ → ℕ → Type 0
 SomeBlock a b = (pre : List Chunk) × (s : ℕ) × (post : List Chunk) × BlockAt a b pre s post
 
+-- every free chunk of `ks` has fewer than `need` words
+abbrev pub FreeShorter : ℕ → List Chunk → Type 0
+FreeShorter need ks = (pre : List Chunk) (s : ℕ) (post : List Chunk) → ks ≡ pre ++ free s ∷ post → s < need
+
 -- no free chunk has as many as `need` words
 abbrev pub NoGap : List ℕ → ℕ → Type 0
-NoGap a need = (pre : List Chunk) (s : ℕ) (post : List Chunk) → chunksOf a ≡ pre ++ free s ∷ post → s < need
+NoGap a need = FreeShorter need (chunksOf a)
 
 -- where the lowest chunk that passes a test is nowhere, none passes it
 missed-at : (test : ℕ → Chunk → Bool) (c : ℕ) (pre : List Chunk) (k : Chunk) (post : List Chunk) (d : ℕ) → d ≡ c + total pre

@@ -18,6 +18,7 @@ use Rattle.arena.specs.Answers.{Outcome}
 use Rattle.arena.specs.Rules.{widest}
 use Rattle.arena.specs.Calls.{allocOn, reportOn}
 use Rattle.arena.proofs.Gates.{sound-lawful}
+use Rattle.arena.proofs.Blocks.{FreeShorter}
 use Rattle.arena.proofs.Causes.{AllocRefused}
 use Rattle.arena.proofs.Cases.{Case, refuses, does, Allots, allots, alloc-case}
 use Rattle.arena.proofs.Gates.{sound-gate}
@@ -41,7 +42,7 @@ widest-least (free t ∷ pre) s post = omega (arith, widest-least pre s post)
 widest-least (live t ∷ pre) s post = widest-least pre s post
 
 -- where every free chunk has fewer words, so has the largest
-widest-below : (ks : List Chunk) (words : ℕ) → 1 ≤ words → ((pre : List Chunk) (s : ℕ) (post : List Chunk) → ks ≡ pre ++ free s ∷ post → s < words) → widest ks < words
+widest-below : (ks : List Chunk) (words : ℕ) → 1 ≤ words → FreeShorter words ks → widest ks < words
 widest-below [] words one f = one
 widest-below (free s ∷ ks) words one f =
     omega (arith, f [] s ks refl, widest-below ks words one (λ pre t post e. f (free s ∷ pre) t post (ap (_∷_ (free s)) e)))

@@ -2,7 +2,7 @@
 use mathlib.Core.Path.{_≡_, refl, sym, ap, _∙_}
 use mathlib.Core.Logic.{_⊎_, inl, inr, ⊎-elim}
 use mathlib.Core.Bool.{Bool, true, false, cond}
-use mathlib.Core.List.{List, [], _∷_, _++_, append-assoc}
+use mathlib.Core.List.{List, [], _∷_, _++_, append-assoc, head-eq-of-cons-eq, tail-eq-of-cons-eq}
 use Prim.Native.Nat.{ℕ, zero, suc, _+_, _-_, _≤_, _<_}
 use native.Mathlib.Omega.{arith}
 use lib.Dec.{leb, eqb}
@@ -33,22 +33,16 @@ pub data Order (pre : List Chunk) (s : ℕ) (post before : List Chunk) (g : ℕ)
   gap-above : (mid : List Chunk) → before ≡ pre ++ live s ∷ mid → post ≡ mid ++ free g ∷ after → Order pre s post before g after
   gap-below : (mid : List Chunk) → pre ≡ before ++ free g ∷ mid → after ≡ mid ++ live s ∷ post → Order pre s post before g after
 
-head-same : (k l : Chunk) (ks ls : List Chunk) → k ∷ ks ≡ l ∷ ls → k ≡ l
-head-same k l ks ls e = cc
-
-tail-same : (k l : Chunk) (ks ls : List Chunk) → k ∷ ks ≡ l ∷ ls → ks ≡ ls
-tail-same k l ks ls e = cc
-
 pub order : (pre : List Chunk) (s : ℕ) (post before : List Chunk) (g : ℕ) (after : List Chunk) → pre ++ live s ∷ post ≡ before ++ free g ∷ after → Order pre s post before g after
 order [] s post [] g after e = absurd (let z : _≡_ {A = ℕ} 0 1 = cc in omega arith)
 order [] s post (l ∷ before) g after e =
-    gap-above before (ap (λ (k : Chunk). k ∷ before) (sym (head-same _ _ _ _ e))) (tail-same _ _ _ _ e)
+    gap-above before (ap (λ (k : Chunk). k ∷ before) (sym (head-eq-of-cons-eq e))) (tail-eq-of-cons-eq e)
 order (k ∷ pre) s post [] g after e =
-    gap-below pre (ap (λ (l : Chunk). l ∷ pre) (head-same _ _ _ _ e)) (sym (tail-same _ _ _ _ e))
-order (k ∷ pre) s post (l ∷ before) g after e = go (order pre s post before g after (tail-same _ _ _ _ e))
+    gap-below pre (ap (λ (l : Chunk). l ∷ pre) (head-eq-of-cons-eq e)) (sym (tail-eq-of-cons-eq e))
+order (k ∷ pre) s post (l ∷ before) g after e = go (order pre s post before g after (tail-eq-of-cons-eq e))
   where
     q : k ≡ l
-    q = head-same _ _ _ _ e
+    q = head-eq-of-cons-eq e
 
     go : Order pre s post before g after → Order (k ∷ pre) s post (l ∷ before) g after
     go (gap-above mid u v) = gap-above mid (ap (_∷_ l) u ∙ ap (λ (m : Chunk). m ∷ (pre ++ live s ∷ mid)) (sym q)) v

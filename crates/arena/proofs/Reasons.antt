@@ -1,12 +1,14 @@
 -- Each call gives each reason exactly when what the reason says, in `Causes`, is so, and is done exactly when none is.
-use mathlib.Core.Path.{_≡_, refl, subst}
+use mathlib.Core.Path.{_≡_, refl, sym, _∙_, subst}
 use mathlib.Core.Logic.{_↔_}
+use mathlib.Core.Bool.{true, false, true≢false}
 use mathlib.Core.List.{List, [], _∷_}
 use Prim.Native.Nat.{ℕ, _-_}
 use native.Mathlib.Omega.{arith}
-use Rattle.layout.specs.Numbers.{headerWords, need}
+use lib.ListN.{length}
+use Rattle.layout.specs.Numbers.{headerWords, lawful, need}
 use Rattle.layout.specs.Chunks.{Chunk, written}
-use Rattle.layout.specs.Walk.{chunksOf}
+use Rattle.layout.specs.Walk.{sound, chunksOf}
 use Rattle.layout.specs.Reasons.{number, arenaGate}
 use Rattle.layout.specs.declared.Reason.{Reason}
 use Rattle.layout.specs.declared.Reason.the-variants.{Length, Damaged, NotABlock, Zero, TooLarge, NoRoom, Frame}
@@ -15,9 +17,9 @@ use Rattle.arena.specs.Answers.{Outcome, done, settle, pass}
 use Rattle.arena.specs.Spots.{nowhere, held}
 use Rattle.arena.specs.Rules.{Way, orElse, released, grantedAt, grantFrom, move}
 use Rattle.arena.specs.Calls.{onBlock, granted, startOn, allocBy, allocOn, freeOn, reallocOn, sizeOn, reportOn}
-use Rattle.arena.proofs.Gates.{unlawful-gate, damaged-gate, sound-gate, zero-gate, large-gate, request-gate}
+use Rattle.arena.proofs.Gates.{sound-lawful, unlawful-gate, damaged-gate, sound-gate, zero-gate, large-gate, request-gate}
 use Rattle.arena.proofs.Blocks.{no-block-held, block-held, no-gap-fits}
-use Rattle.arena.proofs.Causes.{Short, StartRefused, ReportRefused, BlockRefused, AllocRefused, ReallocRefused}
+use Rattle.arena.proofs.Causes.{Grounds, Short, StartRefused, ReportRefused, BlockRefused, AllocRefused, ReallocRefused}
 use Rattle.arena.proofs.Cases.{Case, refuses, does, start-case, alloc-case, free-case, size-case, report-case}
 use Rattle.arena.proofs.Regranting.{Stays, by-own, by-next, by-none, stays-told, realloc-case}
 
@@ -33,6 +35,24 @@ module _ {fields : ℕ} {a : List ℕ} {Refuses : Reason → Type 0} {Does : Lis
       → (outcome .answer .code ≡ 0) ↔ ((why : Reason) → Refuses why → ⊥)
   done-unless gives (refuses r s) = (λ e why so. omega (arith, number-positive r), λ none. absurd (none r s))
   done-unless gives (does d) = (λ e why so. omega (arith, gives why so, number-positive why), λ none. refl)
+
+-- ---- the first two reasons, and the last
+
+module _ (a : List ℕ) (block zero large room : Type 0) where
+  -- a call that gives one of the first two has an unlawful length, or an arena that is not sound
+  pub arena-refused : {code : ℕ} → ((why : Reason) → code ≡ number why → Grounds a block zero large room why)
+      → (code ≡ number Length → lawful (length a) ≡ false) × (code ≡ number Damaged → sound a ≡ false)
+  arena-refused f = (f Length, λ e. f Damaged e .1)
+
+  -- on a sound arena, where block and request give no reason, want of room is left
+  pub only-room : sound a ≡ true → (block → ⊥) → (zero → ⊥) → (large → ⊥) → (why : Reason) → Grounds a block zero large room why → room
+  only-room e b z m Length l = absurd (true≢false (sym (sound-lawful a e) ∙ l))
+  only-room e b z m Damaged h = absurd (true≢false (sym e ∙ h .1))
+  only-room e b z m NotABlock h = absurd (b (h .1))
+  only-room e b z m Zero h = absurd (z (h .1))
+  only-room e b z m TooLarge h = absurd (m (h .1))
+  only-room e b z m NoRoom h = h .1
+  only-room e b z m Frame h = absurd h
 
 -- ---- the reason that is so is given
 

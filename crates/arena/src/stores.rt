@@ -3,14 +3,14 @@ use layout::wide;
 ghost use mathlib.Core.Path.{_≡_};
 ghost use Prim.Native.Nat.{_+_, _<_, _≤_};
 ghost use lib.ListN.{length, set};
-ghost use Rattle.layout.specs.Numbers.{liveMark};
+ghost use Rattle.layout.specs.Numbers.{wordValues, liveMark};
 ghost use Rattle.layout.specs.Chunks.{header};
 ghost use Rattle.arena.specs.Rules.{copied};
 ghost use Rattle.arena.specs.Inside.Moves.{Beside};
 
 // Word `i` becomes `v`. One that is `v` already is not stored to: no call writes a word that its rule leaves as it is.
 pub(crate) fn change(a: &mut [u32], i: usize, v: usize)
-    requires { ⌜ (i < length (now a)) × (v < 4294967296) ⌝ }
+    requires { ⌜ (i < length (now a)) × (v < wordValues) ⌝ }
     ensures { λ _. ⌜ now (a .exit) ≡ set (now (a .entry)) i v ⌝ }
 {
     if wide(a[i]) == v {
@@ -21,7 +21,7 @@ pub(crate) fn change(a: &mut [u32], i: usize, v: usize)
 
 // Words `i` and `i + 1` become `v` and `w`.
 pub(crate) fn put(a: &mut [u32], i: usize, v: usize, w: usize)
-    requires { ⌜ (i + 1 < length (now a)) × (v < 4294967296) × (w < 4294967296) ⌝ }
+    requires { ⌜ (i + 1 < length (now a)) × (v < wordValues) × (w < wordValues) ⌝ }
     ensures { λ _. ⌜ now (a .exit) ≡ header i v w (now (a .entry)) ⌝ }
 {
     change(a, i, v);
@@ -30,7 +30,7 @@ pub(crate) fn put(a: &mut [u32], i: usize, v: usize, w: usize)
 
 // The header of a live chunk of `words` words at word `i`.
 pub(crate) fn put_live(a: &mut [u32], i: usize, words: usize)
-    requires { ⌜ (i + 1 < length (now a)) × (words < 4294967296) ⌝ }
+    requires { ⌜ (i + 1 < length (now a)) × (words < wordValues) ⌝ }
     ensures { λ _. ⌜ now (a .exit) ≡ header i words liveMark (now (a .entry)) ⌝ }
 {
     put(a, i, words, wide(layout::LIVE_MARK));

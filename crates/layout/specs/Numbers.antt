@@ -34,6 +34,10 @@ greatestLength = 16384
 abbrev pub leastSplit : ℕ
 leastSplit = 4
 
+-- what fits a word is below this number
+abbrev pub wordValues : ℕ
+wordValues = 4294967296
+
 -- the second word of a live chunk
 abbrev pub liveMark : ℕ
 liveMark = 4294967295

@@ -12,7 +12,8 @@ use Rattle.layout.proofs.Holds.{Lawful}
 use Rattle.layout.proofs.Round.{sound-chunks}
 use Rattle.arena.proofs.Blocks.{BlockAt, NoBlock}
 use Rattle.ledger.specs.Ledger.{Entry, Ledger, Listed, Unlisted}
-use Rattle.ledger.proofs.Blocks.{entryAt, blocksFrom, blocksOf, blocks-append, Laid, blocks-laid, Chunked, chunked, listed-at, listed-split}
+use Rattle.ledger.proofs.Entries.{Laid, listed-at, listed-split}
+use Rattle.ledger.proofs.Blocks.{entryAt, blocksFrom, blocksOf, blocks-append, blocks-laid, Chunked, chunked}
 
 -- the words `a` are a sound arena of `n` words, and `ledger` has its live blocks
 pub record Agrees (n : ℕ) (a : List ℕ) (ledger : Ledger) : Type 0 where
@@ -20,15 +21,7 @@ pub record Agrees (n : ℕ) (a : List ℕ) (ledger : Ledger) : Type 0 where
   pub long : length a ≡ n
   pub lists : ledger ≡ blocksOf a
 
--- entry `e` is that of the live chunk of `s` words between `pre` and `post`
-pub record Block (a : List ℕ) (e : Entry) : Type 0 where
-  pub pre : List Chunk
-  pub s : ℕ
-  pub post : List Chunk
-  pub stands : BlockAt a (e .block) pre s post
-  pub granted-is : e .granted ≡ s - headerWords
-
-pub chunked-block : {a : List ℕ} {below above : Ledger} {e : Entry} (k : Chunked firstChunk (chunksOf a) below e above) → BlockAt a (e .block) (k .pre) (k .s) (k .post)
+pub chunked-block : {a : List ℕ} {above : Ledger} {e : Entry} (k : Chunked firstChunk (chunksOf a) e above) → BlockAt a (e .block) (k .pre) (k .s) (k .post)
 chunked-block k = record { same = k .same; number-is = sym (ap (λ (f : Entry). f .block) (k .is)) }
 
 module _ (n : ℕ) (a : List ℕ) (ledger : Ledger) (g : Agrees n a ledger) where
@@ -42,14 +35,11 @@ module _ (n : ℕ) (a : List ℕ) (ledger : Ledger) (g : Agrees n a ledger) wher
   -- ---- an entry of the ledger is a block of the arena
 
   -- an entry between others is a live chunk between others
-  pub agrees-chunked : (below : Ledger) (e : Entry) (above : Ledger) → ledger ≡ below ++ e ∷ above → Chunked firstChunk (chunksOf a) below e above
+  pub agrees-chunked : (below : Ledger) (e : Entry) (above : Ledger) → ledger ≡ below ++ e ∷ above → Chunked firstChunk (chunksOf a) e above
   agrees-chunked below e above q = chunked firstChunk (chunksOf a) below e above (sym (g .lists) ∙ q)
 
-  pub listed-block : (e : Entry) → Listed ledger e → Block a e
-  listed-block e l =
-      let (below, above, q) = listed-split ledger e l in
-      let k = agrees-chunked below e above q in
-      record { pre = k .pre; s = k .s; post = k .post; stands = chunked-block k; granted-is = ap (λ (f : Entry). f .granted) (k .is) }
+  pub listed-chunked : (e : Entry) → Listed ledger e → (above : Ledger) × Chunked firstChunk (chunksOf a) e above
+  listed-chunked e l = let (below, above, q) = listed-split ledger e l in (above, agrees-chunked below e above q)
 
   -- ---- a block of the arena is an entry of the ledger
 
@@ -61,6 +51,6 @@ module _ (n : ℕ) (a : List ℕ) (ledger : Ledger) (g : Agrees n a ledger) wher
   -- a number that no entry has is no block's, and the other way round
   pub unlisted-block : (b : ℕ) → NoBlock a b ↔ Unlisted ledger b
   unlisted-block b = (
-    λ none e l q. let k = listed-block e l in none (k .pre) (k .s) (k .post) (record { same = k .stands .same; number-is = k .stands .number-is ∙ q }),
+    λ none e l q. let (above, k) = listed-chunked e l in none (k .pre) (k .s) (k .post) (record { same = k .same; number-is = chunked-block k .number-is ∙ q }),
     λ un pre s post is. un (record { block = b; granted = s - headerWords }) (block-listed b pre s post is) refl,
   )

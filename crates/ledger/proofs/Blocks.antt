@@ -1,16 +1,16 @@
 -- The live blocks of a list of chunks, as a ledger has them: of chunks in a row, of merged chunks, and of an arena.
 use mathlib.Core.Path.{_≡_, refl, sym, ap, _∙_}
-use mathlib.Core.Logic.{inl, inr}
-use mathlib.Core.List.{List, [], _∷_, _++_}
-use Prim.Native.Nat.{ℕ, _+_, _-_, _≤_}
+use mathlib.Core.List.{List, [], _∷_, _++_, nil≢cons, head-eq-of-cons-eq, tail-eq-of-cons-eq}
+use Prim.Native.Nat.{ℕ, _+_, _-_}
 use native.Mathlib.Omega.{arith}
 use lib.ListN.{length}
 use Rattle.layout.specs.Numbers.{firstChunk, headerWords}
-use Rattle.layout.specs.Chunks.{Chunk, free, live, total}
+use Rattle.layout.specs.Chunks.{Chunk, free, live, size, total}
 use Rattle.layout.specs.Walk.{chunksOf}
 use Rattle.layout.proofs.Holds.{Sizes}
 use Rattle.arena.specs.Rules.{join, joined, freeWords, liveBlocks}
-use Rattle.ledger.specs.Ledger.{Entry, Ledger, Listed, ends, heldWords}
+use Rattle.ledger.specs.Ledger.{Entry, Ledger, heldWords}
+use Rattle.ledger.proofs.Entries.{Laid, laid-weaken}
 
 -- the live chunk of `s` words that starts at word `c`
 abbrev pub entryAt : ℕ → ℕ → Entry
@@ -56,15 +56,6 @@ blocks-joined c (live s ∷ ks) = blocks-join c (live s) (joined ks) ∙ ap (_�
 
 -- ---- where they lie
 
--- the entries lie one after another between the words `c` and `d`, each behind its header
-abbrev pub Laid : ℕ → ℕ → Ledger → Type 0
-Laid c d [] = c ≤ d
-Laid c d (e ∷ es) = (c + headerWords ≤ e .block) × Laid (ends e) d es
-
-pub laid-weaken : (b c d : ℕ) (es : Ledger) → b ≤ c → Laid c d es → Laid b d es
-laid-weaken b c d [] l h = omega arith
-laid-weaken b c d (e ∷ es) l h = (omega (arith, h .0), h .1)
-
 pub blocks-laid : (c : ℕ) (ks : List Chunk) (d : ℕ) → d ≡ c + total ks → Sizes ks → Laid c d (blocksFrom c ks)
 blocks-laid c [] d e z = omega arith
 blocks-laid c (free s ∷ ks) d e z = laid-weaken c (c + s) d (blocksFrom (c + s) ks) (omega arith) (blocks-laid (c + s) ks d (omega arith) (z .2))
@@ -84,64 +75,26 @@ blocks-count c (live s ∷ ks) = omega (arith, blocks-count (c + s) ks)
 
 -- ---- an entry among them is a live chunk
 
--- entry `e` is that of the live chunk of `s` words between `pre` and `post`, which begin at word `c`; `below` and `above` are the blocks of `pre` and `post`
-pub record Chunked (c : ℕ) (ks : List Chunk) (below : Ledger) (e : Entry) (above : Ledger) : Type 0 where
+-- entry `e` is that of the live chunk of `s` words between `pre` and `post`, which begin at word `c`; `above` are the blocks of `post`
+pub record Chunked (c : ℕ) (ks : List Chunk) (e : Entry) (above : Ledger) : Type 0 where
   pub pre : List Chunk
   pub s : ℕ
   pub post : List Chunk
   pub same : ks ≡ pre ++ live s ∷ post
   pub is : e ≡ entryAt (c + total pre) s
-  pub below-is : below ≡ blocksFrom c pre
   pub above-is : above ≡ blocksFrom (c + total pre + s) post
 
-head-entry : (e f : Entry) (es fs : Ledger) → e ∷ es ≡ f ∷ fs → e ≡ f
-head-entry e f es fs q = cc
+-- the same with one chunk more before it
+chunked-behind : (c : ℕ) (k : Chunk) (ks : List Chunk) (e : Entry) (above : Ledger) → Chunked (c + size k) ks e above → Chunked c (k ∷ ks) e above
+chunked-behind c k ks e above r =
+    let p : c + size k + total (r .pre) ≡ c + (size k + total (r .pre)) = omega arith in
+    record { pre = k ∷ r .pre; s = r .s; post = r .post; same = ap (_∷_ k) (r .same); is = rw p at (r .is); above-is = rw p at (r .above-is) }
 
-tail-entries : (e f : Entry) (es fs : Ledger) → e ∷ es ≡ f ∷ fs → es ≡ fs
-tail-entries e f es fs q = cc
-
-pub chunked : (c : ℕ) (ks : List Chunk) (below : Ledger) (e : Entry) (above : Ledger) → blocksFrom c ks ≡ below ++ e ∷ above → Chunked c ks below e above
-chunked c [] [] e above q = absurd (let z : _≡_ {A = ℕ} 0 1 = cc in omega arith)
-chunked c [] (f ∷ below) e above q = absurd (let z : _≡_ {A = ℕ} 0 1 = cc in omega arith)
-chunked c (free s ∷ ks) below e above q = go (chunked (c + s) ks below e above q)
-  where
-    go : Chunked (c + s) ks below e above → Chunked c (free s ∷ ks) below e above
-    go r =
-        let p : c + s + total (r .pre) ≡ c + (s + total (r .pre)) = omega arith in
-        record {
-          pre = free s ∷ r .pre;
-          s = r .s;
-          post = r .post;
-          same = ap (_∷_ (free s)) (r .same);
-          is = rw p at (r .is);
-          below-is = r .below-is;
-          above-is = rw p at (r .above-is);
-        }
+pub chunked : (c : ℕ) (ks : List Chunk) (below : Ledger) (e : Entry) (above : Ledger) → blocksFrom c ks ≡ below ++ e ∷ above → Chunked c ks e above
+chunked c [] [] e above q = absurd (nil≢cons q)
+chunked c [] (f ∷ below) e above q = absurd (nil≢cons q)
+chunked c (free s ∷ ks) below e above q = chunked-behind c (free s) ks e above (chunked (c + s) ks below e above q)
 chunked c (live s ∷ ks) [] e above q =
     let p : c + 0 ≡ c = omega arith in
-    record { pre = []; s = s; post = ks; same = refl; is = rw p (sym (head-entry _ _ _ _ q)); below-is = refl; above-is = rw p (sym (tail-entries _ _ _ _ q)) }
-chunked c (live s ∷ ks) (f ∷ below) e above q = go (chunked (c + s) ks below e above (tail-entries _ _ _ _ q))
-  where
-    go : Chunked (c + s) ks below e above → Chunked c (live s ∷ ks) (f ∷ below) e above
-    go r =
-        let p : c + s + total (r .pre) ≡ c + (s + total (r .pre)) = omega arith in
-        record {
-          pre = live s ∷ r .pre;
-          s = r .s;
-          post = r .post;
-          same = ap (_∷_ (live s)) (r .same);
-          is = rw p at (r .is);
-          below-is = ap (λ (g : Entry). g ∷ below) (sym (head-entry _ _ _ _ q)) ∙ ap (_∷_ (entryAt c s)) (r .below-is);
-          above-is = rw p at (r .above-is);
-        }
-
--- ---- entries as they stand in a ledger
-
-pub listed-at : (below : Ledger) (e : Entry) (above : Ledger) → Listed (below ++ e ∷ above) e
-listed-at [] e above = inl refl
-listed-at (f ∷ below) e above = inr (listed-at below e above)
-
-pub listed-split : (es : Ledger) (e : Entry) → Listed es e → (below : Ledger) × (above : Ledger) × (es ≡ below ++ e ∷ above)
-listed-split [] e l = absurd l
-listed-split (f ∷ fs) e (inl q) = ([], fs, ap (λ (g : Entry). g ∷ fs) q)
-listed-split (f ∷ fs) e (inr l) = let (below, above, q) = listed-split fs e l in (f ∷ below, above, ap (_∷_ f) q)
+    record { pre = []; s = s; post = ks; same = refl; is = rw p (sym (head-eq-of-cons-eq q)); above-is = rw p (sym (tail-eq-of-cons-eq q)) }
+chunked c (live s ∷ ks) (f ∷ below) e above q = chunked-behind c (live s) ks e above (chunked (c + s) ks below e above (tail-eq-of-cons-eq q))

@@ -21,16 +21,16 @@ use Rattle.arena.proofs.Cases.{Case, refuses, does, Starts, starts, start-case,
 use Rattle.arena.proofs.Regranting.{Regrants, shrinks, grows, moves, realloc-case}
 use Rattle.arena.proofs.Relocating.{relocated}
 use Rattle.ledger.specs.Events.{Call, start, alloc, free, realloc, size, view, report, call, ours}
-use Rattle.ledger.specs.Ledger.{Ledger, grants, frees, regrants, effect, noted, ledgerAfter}
-use Rattle.ledger.specs.Holders.{renamed, numberAfter}
+use Rattle.ledger.specs.Ledger.{Ledger, grants, frees, regrants, effect, noted, ifDone, ledgerAfter}
+use Rattle.ledger.specs.Holders.{renamed}
 use Rattle.ledger.proofs.Agreeing.{Agrees}
 use Rattle.ledger.proofs.Going.{Goes, unchanged-goes, written-goes, freed-goes, stays-goes, granted-goes}
-use Rattle.ledger.proofs.Relocation.{moved-goes}
+use Rattle.ledger.proofs.Moves.{moved-goes}
 
 -- a call on the words `a` that came to this outcome
-abbrev pub CallGoes : ℕ → List ℕ → Ledger → Call → Outcome → Type 0
+abbrev CallGoes : ℕ → List ℕ → Ledger → Call → Outcome → Type 0
 CallGoes n a ledger c outcome =
-    Goes n a ledger (λ b. numberAfter (call c) (outcome .answer) b) (outcome .words) (ledgerAfter (call c) (outcome .answer) ledger)
+    Goes n a ledger (λ b. ifDone (outcome .answer) (renamed (effect (call c)) (outcome .answer) b) b) (outcome .words) (ledgerAfter (call c) (outcome .answer) ledger)
 
 -- a refusal changes nothing, so all depends on what is done
 case-goes : {fields : ℕ} {n : ℕ} {a : List ℕ} {ledger : Ledger} {Refuses : Reason → Type 0} {Does : List ℕ → List ℕ → Type 0} {outcome : Outcome} (c : Call) → Agrees n a ledger
@@ -43,14 +43,14 @@ module _ (n : ℕ) (a : List ℕ) (ledger : Ledger) (g : Agrees n a ledger) wher
   needed : (w : ℕ) → Request a w → Needed (need w)
   needed w r = request-needed (length a) w (sound-lawful a (g .is-sound)) r
 
-  start-done : (values after : List ℕ) → Starts a values after → Goes n a ledger (λ b. b) after []
-  start-done values after (starts l) = written-goes n a ledger (λ b. b) _ [] (g .long) (whole-lawful a l) refl (λ b. refl)
+  start-goes : (values after : List ℕ) → Starts a values after → Goes n a ledger (λ b. b) after []
+  start-goes values after (starts l) = written-goes n a ledger (λ b. b) _ [] (g .long) (whole-lawful a l) refl (λ b. refl)
 
-  alloc-done : (w : ℕ) (values after : List ℕ) → Allots a w values after → Goes n a ledger (λ b. b) after (noted grants (success values) ledger)
-  alloc-done w values after (allots e r pre s post is) = granted-goes n a ledger g pre s post (need w) (is .same) (needed w r) (is .enough)
+  alloc-goes : (w : ℕ) (values after : List ℕ) → Allots a w values after → Goes n a ledger (λ b. b) after (noted grants (success values) ledger)
+  alloc-goes w values after (allots e r pre s post is) = granted-goes n a ledger g pre s post (need w) (is .same) (needed w r) (is .enough)
 
-  free-done : (b : ℕ) (values after : List ℕ) → Frees a b values after → Goes n a ledger (λ c. c) after (noted (frees b) (success values) ledger)
-  free-done b values after (frees e pre s post is) = freed-goes n a ledger g b pre s post is
+  free-goes : (b : ℕ) (values after : List ℕ) → Frees a b values after → Goes n a ledger (λ c. c) after (noted (frees b) (success values) ledger)
+  free-goes b values after (frees e pre s post is) = freed-goes n a ledger g b pre s post is
 
   -- a realloc that answers the same block renames none
   same-name : (b c : ℕ) → cond (eqb c b) b c ≡ c
@@ -60,27 +60,27 @@ module _ (n : ℕ) (a : List ℕ) (ledger : Ledger) (g : Agrees n a ledger) wher
       go true q = sym (eqb-true c b q)
       go false q = refl
 
-  realloc-done : (b w : ℕ) (values after : List ℕ) → Regrants a b w values after → Goes n a ledger (renamed (regrants b) (success values)) after (noted (regrants b) (success values) ledger)
-  realloc-done b w values after (shrinks e r pre s post is l) =
+  realloc-goes : (b w : ℕ) (values after : List ℕ) → Regrants a b w values after → Goes n a ledger (renamed (regrants b) (success values)) after (noted (regrants b) (success values) ledger)
+  realloc-goes b w values after (shrinks e r pre s post is l) =
       stays-goes n a ledger g b pre s [] post s (need w) (renamed (regrants b) (success values)) is refl (omega arith) (needed w r) l (same-name b)
-  realloc-done b w values after (grows e r pre s t post is l m) =
+  realloc-goes b w values after (grows e r pre s t post is l m) =
       stays-goes n a ledger g b pre s (gap t ∷ []) post (s + t) (need w) (renamed (regrants b) (success values)) is refl (omega arith) (needed w r) m (same-name b)
-  realloc-done b w values after (moves e r pre s post is l before t behind fit block at-is ks same) =
+  realloc-goes b w values after (moves e r pre s post is l before t behind fit block at-is ks same) =
       rw (same, at-is)
       (moved-goes n a ledger g b pre s post is before t behind (need w) (fit .same) (needed w r) (fit .enough) (l .own)
       (relocated a (need w) pre s post before t behind b _ _ e (needed w r) is fit (l .own) refl refl))
 
-  size-done : (b : ℕ) (values after : List ℕ) → Measures a b values after → Goes n a ledger (λ c. c) after ledger
-  size-done b values after (measures e pre s post is) = unchanged-goes n a ledger g
+  size-goes : (b : ℕ) (values after : List ℕ) → Measures a b values after → Goes n a ledger (λ c. c) after ledger
+  size-goes b values after (measures e pre s post is) = unchanged-goes n a ledger g
 
-  report-done : (values after : List ℕ) → Reports a values after → Goes n a ledger (λ c. c) after ledger
-  report-done values after (reports e) = unchanged-goes n a ledger g
+  report-goes : (values after : List ℕ) → Reports a values after → Goes n a ledger (λ c. c) after ledger
+  report-goes values after (reports e) = unchanged-goes n a ledger g
 
   pub call-goes : (c : Call) → CallGoes n a ledger c (ours c a)
-  call-goes start = case-goes start g start-done (start-case a)
-  call-goes (alloc w) = case-goes (alloc w) g (alloc-done w) (alloc-case a w)
-  call-goes (free b) = case-goes (free b) g (free-done b) (free-case a b)
-  call-goes (realloc b w) = case-goes (realloc b w) g (realloc-done b w) (realloc-case a b w)
-  call-goes (size b) = case-goes (size b) g (size-done b) (size-case a b)
+  call-goes start = case-goes start g start-goes (start-case a)
+  call-goes (alloc w) = case-goes (alloc w) g (alloc-goes w) (alloc-case a w)
+  call-goes (free b) = case-goes (free b) g (free-goes b) (free-case a b)
+  call-goes (realloc b w) = case-goes (realloc b w) g (realloc-goes b w) (realloc-case a b w)
+  call-goes (size b) = case-goes (size b) g (size-goes b) (size-case a b)
   call-goes (view b) = unchanged-goes n a ledger g
-  call-goes report = case-goes report g report-done (report-case a)
+  call-goes report = case-goes report g report-goes (report-case a)

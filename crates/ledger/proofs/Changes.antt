@@ -9,8 +9,8 @@ use Rattle.layout.specs.Chunks.{Chunk, free, live, total}
 use Rattle.layout.proofs.Holds.{Sizes}
 use Rattle.arena.specs.Rules.{splits, taken, cut, trim}
 use Rattle.ledger.specs.Ledger.{Entry, enter, strike}
-use Rattle.ledger.proofs.Blocks.{entryAt, blocksFrom, blocks-around, Laid, blocks-laid}
-use Rattle.ledger.proofs.Entries.{enter-at, strike-at}
+use Rattle.ledger.proofs.Blocks.{entryAt, blocksFrom, blocks-around, blocks-laid}
+use Rattle.ledger.proofs.Entries.{Laid, enter-at, strike-at}
 
 -- ---- the blocks of what a rule puts in
 

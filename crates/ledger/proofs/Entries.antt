@@ -1,4 +1,4 @@
--- Entries that are put into a ledger and struck out of it: which ones it has then, and where.
+-- The entries of a ledger: where they lie, and which ones it has, and where, once one is put in or struck out.
 use mathlib.Core.Path.{_≡_, refl, sym, ap, _∙_}
 use mathlib.Core.Logic.{_≢_, _⊎_, inl, inr}
 use mathlib.Core.Bool.{Bool, true, false, cond}
@@ -9,7 +9,17 @@ use lib.Dec.{leb, eqb}
 use borrow.Author.Tests.{eqb-true, eqb-false, leb-true, le-leb, lt-leb, eq-eqb, ne-eqb}
 use Rattle.layout.specs.Numbers.{headerWords}
 use Rattle.ledger.specs.Ledger.{Entry, Ledger, enter, strike, Listed, Unlisted, ends}
-use Rattle.ledger.proofs.Blocks.{Laid}
+
+-- ---- an entry between others
+
+pub listed-at : (below : Ledger) (e : Entry) (above : Ledger) → Listed (below ++ e ∷ above) e
+listed-at [] e above = inl refl
+listed-at (f ∷ below) e above = inr (listed-at below e above)
+
+pub listed-split : (es : Ledger) (e : Entry) → Listed es e → (below : Ledger) × (above : Ledger) × (es ≡ below ++ e ∷ above)
+listed-split [] e l = absurd l
+listed-split (f ∷ fs) e (inl q) = ([], fs, ap (λ (g : Entry). g ∷ fs) q)
+listed-split (f ∷ fs) e (inr l) = let (below, above, q) = listed-split fs e l in (f ∷ below, above, ap (_∷_ f) q)
 
 -- ---- which entries there are
 
@@ -33,21 +43,6 @@ module _ (e : Entry) where
       go true l r = inr l
       go false (inl q) r = inl q
       go false (inr l) r = inr (r l)
-
-  -- and there are no others
-  pub listed-entered : (es : Ledger) (g : Entry) → Listed (enter e es) g → (e ≡ g) ⊎ Listed es g
-  unfolding enter
-  listed-entered [] g l = l
-  listed-entered (f ∷ fs) g l = go (leb (e .block) (f .block)) l (listed-entered fs g)
-    where
-      go : (first : Bool) → Listed (cond first (e ∷ f ∷ fs) (f ∷ enter e fs)) g → (Listed (enter e fs) g → (e ≡ g) ⊎ Listed fs g) → (e ≡ g) ⊎ Listed (f ∷ fs) g
-      go true l r = l
-      go false (inl q) r = inr (inl q)
-      go false (inr l) r = later (r l)
-        where
-          later : (e ≡ g) ⊎ Listed fs g → (e ≡ g) ⊎ Listed (f ∷ fs) g
-          later (inl q) = inl q
-          later (inr m) = inr (inr m)
 
 module _ (b : ℕ) where
   pub listed-strike : (es : Ledger) (g : Entry) → g .block ≢ b → Listed es g → Listed (strike b es) g
@@ -73,7 +68,16 @@ module _ (b : ℕ) where
 
 -- ---- entries that lie one after another
 
-pub laid-within : (c d : ℕ) (es : Ledger) → Laid c d es → c ≤ d
+-- the entries lie one after another between the words `c` and `d`, each behind its header
+abbrev pub Laid : ℕ → ℕ → Ledger → Type 0
+Laid c d [] = c ≤ d
+Laid c d (e ∷ es) = (c + headerWords ≤ e .block) × Laid (ends e) d es
+
+pub laid-weaken : (b c d : ℕ) (es : Ledger) → b ≤ c → Laid c d es → Laid b d es
+laid-weaken b c d [] l h = omega arith
+laid-weaken b c d (e ∷ es) l h = (omega (arith, h .0), h .1)
+
+laid-within : (c d : ℕ) (es : Ledger) → Laid c d es → c ≤ d
 laid-within c d [] h = h
 laid-within c d (e ∷ es) h = omega (arith, h .0, laid-within (ends e) d es (h .1))
 
@@ -94,6 +98,20 @@ laid-order c d (e ∷ es) f g h (inl p) (inl q) = inl (sym p ∙ q)
 laid-order c d (e ∷ es) f g h (inl p) (inr m) = inr (inl (rw (← p) (laid-listed (ends e) d es g (h .1) m .0)))
 laid-order c d (e ∷ es) f g h (inr l) (inl q) = inr (inr (rw (← q) (laid-listed (ends e) d es f (h .1) l .0)))
 laid-order c d (e ∷ es) f g h (inr l) (inr m) = laid-order (ends e) d es f g (h .1) l m
+
+-- two of one number are the same
+pub laid-same : (c d : ℕ) (es : Ledger) (f g : Entry) → Laid c d es → Listed es f → Listed es g → f .block ≡ g .block → f ≡ g
+laid-same c d es f g h l m q = go (laid-order c d es f g h l m)
+  where
+    go : (f ≡ g) ⊎ ((ends f + headerWords ≤ g .block) ⊎ (ends g + headerWords ≤ f .block)) → f ≡ g
+    go (inl p) = p
+    go (inr (inl p)) = absurd (omega arith)
+    go (inr (inr p)) = absurd (omega arith)
+
+-- the entries above another lie above its end
+pub laid-above : (c d : ℕ) (below : Ledger) (e : Entry) (above : Ledger) → Laid c d (below ++ e ∷ above) → Laid (ends e) d above
+laid-above c d [] e above h = h .1
+laid-above c d (f ∷ below) e above h = laid-above (ends f) d below e above (h .1)
 
 -- an entry that is put in and lies apart from the others has a number of its own
 pub laid-fresh : (c d : ℕ) (f : Entry) (es : Ledger) → Laid c d (enter f es) → Unlisted es (f .block)

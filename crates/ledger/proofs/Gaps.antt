@@ -9,7 +9,8 @@ use Rattle.layout.specs.Numbers.{headerWords}
 use Rattle.layout.specs.Chunks.{Chunk, free, live, total}
 use Rattle.layout.proofs.Holds.{Sizes, Spaced}
 use Rattle.arena.specs.Inside.Rooms.{roomWords}
-use Rattle.ledger.specs.Gaps.{gapTo, gapsFrom, EachShorter}
+use Rattle.arena.proofs.Blocks.{FreeShorter}
+use Rattle.ledger.specs.Gaps.{gapFrom, gapsFrom, EachShorter}
 use Rattle.ledger.proofs.Blocks.{blocksFrom}
 
 -- the gaps of `ks`, where `p` free words stand right before them
@@ -27,10 +28,6 @@ gaps-blocks n c d p (live s ∷ ks) e f z =
     rw own (ap (_∷_ p) (gaps-blocks n (d + headerWords + (s - headerWords)) (d + s) 0 ks (omega (arith, z .1)) (omega arith) (z .2)))
 
 -- ---- a need and the gaps
-
--- every free chunk among `ks` has fewer than `need` words
-abbrev pub FreeShorter : ℕ → List Chunk → Type 0
-FreeShorter need ks = (pre : List Chunk) (s : ℕ) (post : List Chunk) → ks ≡ pre ++ free s ∷ post → s < need
 
 free-shorter-tail : (need : ℕ) (k : Chunk) (ks : List Chunk) → FreeShorter need (k ∷ ks) → FreeShorter need ks
 free-shorter-tail need k ks f pre s post e = f (k ∷ pre) s post (ap (_∷_ k) e)
@@ -62,7 +59,7 @@ gaps-shorter need ks h one = (
 
 -- ---- the gap right above a block of `s` words, which ends at word `c`, where `post` begin
 
-pub gap-above : (n c s : ℕ) (post : List Chunk) → n ≡ c + total post → Spaced false post → s + gapTo n c (blocksFrom c post) ≡ roomWords s post
+pub gap-above : (n c s : ℕ) (post : List Chunk) → n ≡ c + total post → Spaced false post → s + gapFrom n c (blocksFrom c post) ≡ roomWords s post
 gap-above n c s [] e h = omega arith
 gap-above n c s (live t ∷ post) e h = omega arith
 gap-above n c s (free t ∷ []) e h = omega arith

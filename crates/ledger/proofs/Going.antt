@@ -18,8 +18,8 @@ use Rattle.arena.proofs.Taking.{cut-lawful}
 use Rattle.arena.proofs.Moving.{cut-numbers}
 use Rattle.arena.proofs.Keeping.{chunks-lawful, freed-lawful, trimmed-lawful}
 use Rattle.ledger.specs.Ledger.{Entry, Ledger, enter, strike, Listed, Unlisted}
-use Rattle.ledger.proofs.Blocks.{entryAt, blocksFrom, blocks-joined, Laid, blocks-laid, chunked, listed-split}
-use Rattle.ledger.proofs.Entries.{laid-fresh}
+use Rattle.ledger.proofs.Blocks.{entryAt, blocksFrom, blocks-joined, blocks-laid, chunked}
+use Rattle.ledger.proofs.Entries.{Laid, listed-split, laid-fresh}
 use Rattle.ledger.proofs.Changes.{cut-blocks, trim-blocks, trim-total, enters, leaves, replaces}
 use Rattle.ledger.proofs.Agreeing.{Agrees}
 
@@ -53,6 +53,10 @@ written-goes n a ledger renamed ks then long l are same =
 -- words and ledger stay
 pub unchanged-goes : (n : ℕ) (a : List ℕ) (ledger : Ledger) → Agrees n a ledger → Goes n a ledger (λ b. b) a ledger
 unchanged-goes n a ledger g = record { agrees = g; keeps = λ e f m k p i h j. ap (λ (b : ℕ). getD a (b + i) 0) p }
+
+-- the block that is granted where a need is taken from a free chunk of `s` words, which stands after `pre`
+abbrev pub newEntry : List Chunk → ℕ → ℕ → Entry
+newEntry pre s needed = entryAt (firstChunk + total pre + (s - taken needed s)) (taken needed s)
 
 -- ---- a block between `pre` and `post`
 
@@ -95,28 +99,24 @@ module _ (n : ℕ) (a : List ℕ) (ledger : Ledger) (g : Agrees n a ledger) wher
   -- ---- a need is granted from any free chunk that fits, between `pre` and `post`
 
   module _ (pre : List Chunk) (s : ℕ) (post : List Chunk) (needed : ℕ) (same : chunksOf a ≡ pre ++ free s ∷ post) (nd : Needed needed) (enough : needed ≤ s) where
-    -- the new block
-    abbrev pub newEntry : Entry
-    newEntry = entryAt (firstChunk + total pre + (s - taken needed s)) (taken needed s)
-
-    pub granted-lists : enter newEntry ledger ≡ blocksFrom firstChunk (pre ++ (cut needed s ++ post))
+    pub granted-lists : enter (newEntry pre s needed) ledger ≡ blocksFrom firstChunk (pre ++ (cut needed s ++ post))
     granted-lists =
         let d : ℕ = firstChunk + total pre in
         let (y, z, x) = sizes-as pre (free s ∷ []) post same in
         let c = cut-numbers needed s enough in
-        ap (enter newEntry) (lists-as (pre ++ free s ∷ post) same)
-        ∙ enters pre post y x d (d + s) refl (free s ∷ []) (cut needed s) newEntry (omega arith) (omega (arith, c .cut-total)) refl (cut-blocks needed s d) (omega arith)
+        ap (enter (newEntry pre s needed)) (lists-as (pre ++ free s ∷ post) same)
+        ∙ enters pre post y x d (d + s) refl (free s ∷ []) (cut needed s) (newEntry pre s needed) (omega arith) (omega (arith, c .cut-total)) refl (cut-blocks needed s d) (omega arith)
         (omega (arith, c .enough, c .within, nd .least))
 
     pub granted-lawful : Lawful (length a) (pre ++ (cut needed s ++ post))
     granted-lawful = cut-lawful (length a) needed pre s post (chunks-lawful a (g .is-sound) (pre ++ free s ∷ post) same) nd enough
 
-    pub granted-laid : Laid firstChunk n (enter newEntry ledger)
+    pub granted-laid : Laid firstChunk n (enter (newEntry pre s needed) ledger)
     granted-laid = rw granted-lists (blocks-laid firstChunk (pre ++ (cut needed s ++ post)) n (sym (granted-lawful .fills ∙ g .long)) (granted-lawful .sizes))
 
     -- no block of the ledger has its number
-    pub granted-fresh : Unlisted ledger (newEntry .block)
-    granted-fresh = laid-fresh firstChunk n newEntry ledger granted-laid
+    pub granted-fresh : Unlisted ledger (newEntry pre s needed .block)
+    granted-fresh = laid-fresh firstChunk n (newEntry pre s needed) ledger granted-laid
 
-    pub granted-goes : Goes n a ledger (λ c. c) (written (pre ++ (cut needed s ++ post)) a) (enter newEntry ledger)
-    granted-goes = written-goes n a ledger (λ c. c) (pre ++ (cut needed s ++ post)) (enter newEntry ledger) (g .long) granted-lawful granted-lists (λ c. refl)
+    pub granted-goes : Goes n a ledger (λ c. c) (written (pre ++ (cut needed s ++ post)) a) (enter (newEntry pre s needed) ledger)
+    granted-goes = written-goes n a ledger (λ c. c) (pre ++ (cut needed s ++ post)) (enter (newEntry pre s needed) ledger) (g .long) granted-lawful granted-lists (λ c. refl)

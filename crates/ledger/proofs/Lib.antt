@@ -1,19 +1,16 @@
 -- The laws of ledgers and of runs, and demand 3.
-pub mod Blocks
 pub mod Entries
+pub mod Blocks
 pub mod Changes
 pub mod Gaps
 pub mod Agreeing
 pub mod Rooms
-pub mod Telling
+pub mod Showing
 pub mod Going
-pub mod Relocation
+pub mod Moves
 pub mod Calls
 pub mod Stores
+pub mod Onward
 pub mod Runs
-pub mod Following
 pub mod Lasting
-pub mod Remembering
 pub mod Demands
-pub mod Examples
-pub mod Useless

@@ -1,41 +1,59 @@
 -- Over every run of our calls the ledger agrees with the arena, and the blocks that go on keep their words.
 use mathlib.Core.Path.{_≡_, sym, ap, _∙_}
+use mathlib.Core.Logic.{_⊎_, inl, inr}
 use mathlib.Core.Bool.{true}
 use Prim.Native.Nat.{ℕ, _+_, _<_}
+use native.Mathlib.Omega.{arith}
 use lib.ListN.{length, getD}
 use Rattle.layout.specs.Numbers.{firstChunk, lawful}
 use Rattle.arena.proofs.Starting.{start-sound, start-chunks}
 use Rattle.arena.proofs.Keeping.{start-length}
 use Rattle.ledger.specs.Events.{Event, call, store, ours}
 use Rattle.ledger.specs.Ledger.{Entry, Listed}
-use Rattle.ledger.specs.Runs.{State, Allowed, answerTo, after, Run, begun, next}
-use Rattle.ledger.specs.Holders.{numberAfter, wordAfter}
+use Rattle.ledger.specs.Runs.{State, Allowed, after, Run, begun, next}
+use Rattle.ledger.specs.Holders.{wordAfter, numberAfter, Ended}
+use Rattle.ledger.specs.Demands.{GoesOn}
 use Rattle.ledger.proofs.Blocks.{blocksFrom}
 use Rattle.ledger.proofs.Agreeing.{Agrees}
 use Rattle.ledger.proofs.Calls.{call-goes}
+use Rattle.ledger.proofs.Onward.{Onward, ends, stays, changes, onward}
 use Rattle.ledger.proofs.Stores.{store-agrees, store-keeps}
 
 -- a state whose ledger agrees with its words
-abbrev pub Sure : ℕ → State → Type 0
-Sure n s = Agrees n (s .words) (s .ledger)
+abbrev pub AgreesAt : ℕ → State → Type 0
+AgreesAt n s = Agrees n (s .words) (s .ledger)
 
 -- ---- one event
 
-pub event-agrees : (n : ℕ) (s : State) → Sure n s → (event : Event) → Allowed event (s .ledger) → Sure n (after ours event s)
+event-agrees : (n : ℕ) (s : State) → AgreesAt n s → (event : Event) → Allowed event (s .ledger) → AgreesAt n (after ours event s)
 event-agrees n s g (call c) allowed = call-goes n (s .words) (s .ledger) g c .agrees
 event-agrees n s g (store b i v) allowed = store-agrees n (s .words) (s .ledger) g b i v (allowed .0)
 
-pub event-keeps : (n : ℕ) (s : State) → Sure n s → (event : Event) → Allowed event (s .ledger)
-    → (e f : Entry) → Listed (s .ledger) e → Listed (after ours event s .ledger) f → f .block ≡ numberAfter event (answerTo ours event s) (e .block)
+pub event-keeps : (n : ℕ) (s : State) → AgreesAt n s → (event : Event) → Allowed event (s .ledger)
+    → (e f : Entry) → Listed (s .ledger) e → Listed (after ours event s .ledger) f → f .block ≡ numberAfter ours event s (e .block)
     → (i : ℕ) → i < e .granted → i < f .granted
     → getD (after ours event s .words) (f .block + i) 0 ≡ wordAfter event (e .block) i (getD (s .words) (e .block + i) 0)
 event-keeps n s g (call c) allowed e f l m q i h k = call-goes n (s .words) (s .ledger) g c .keeps e f l m q i h k
 event-keeps n s g (store b j v) allowed e f l m q i h k =
     rw q (store-keeps n (s .words) (s .ledger) g b j v (allowed .0) e l i h)
 
+-- a block goes on with its words, or the event ends it
+module _ (n : ℕ) (s : State) (g : AgreesAt n s) (event : Event) (allowed : Allowed event (s .ledger)) (e : Entry) (l : Listed (s .ledger) e) where
+  goes-on : (f : Entry) → Listed (after ours event s .ledger) f → f .block ≡ numberAfter ours event s (e .block) → GoesOn ours s event e
+  goes-on f m q =
+      record { later = f; listed = m; number-is = q; words-kept = λ i h. event-keeps n s g event allowed e f l m q i (omega arith) (omega arith) }
+
+  pub block-keeps : Ended ours event s (e .block) ⊎ GoesOn ours s event e
+  block-keeps = go (onward ours event s e l)
+    where
+      go : Onward ours event s e (after ours event s .ledger) (numberAfter ours event s (e .block)) → Ended ours event s (e .block) ⊎ GoesOn ours s event e
+      go (ends end) = inl end
+      go (stays m q) = inr (goes-on e m q)
+      go (changes z p m q) = inr (goes-on _ m q)
+
 -- ---- every run
 
-pub run-agrees : {n : ℕ} {s : State} → Run ours n s → Sure n s
+pub run-agrees : {n : ℕ} {s : State} → Run ours n s → AgreesAt n s
 run-agrees (begun a long l) =
     let lawful-length : lawful (length a) ≡ true = ap lawful long ∙ l in
     record {

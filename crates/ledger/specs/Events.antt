@@ -5,11 +5,12 @@ use lib.ListN.{set}
 use Rattle.arena.specs.Answers.{Outcome, success}
 use Rattle.arena.specs.Calls.{startOn, allocOn, freeOn, reallocOn, sizeOn, viewOn, reportOn}
 
+-- `w` is how many words are asked for, `b` a block's number
 pub data Call : Type 0 where
   start : Call
-  alloc : (n : ℕ) → Call
+  alloc : (w : ℕ) → Call
   free : (b : ℕ) → Call
-  realloc : (b n : ℕ) → Call
+  realloc : (b w : ℕ) → Call
   size : (b : ℕ) → Call
   view : (b : ℕ) → Call
   report : Call
@@ -26,9 +27,9 @@ Library = Call → List ℕ → Outcome
 -- the calls of this project; a view answers the words that it hands back
 abbrev pub ours : Library
 ours start a = startOn a
-ours (alloc n) a = allocOn a n
+ours (alloc w) a = allocOn a w
 ours (free b) a = freeOn a b
-ours (realloc b n) a = reallocOn a b n
+ours (realloc b w) a = reallocOn a b w
 ours (size b) a = sizeOn a b
 ours (view b) a = record { answer = success (viewOn a b); words = a }
 ours report a = reportOn a

@@ -5,14 +5,14 @@ use Rattle.layout.specs.Numbers.{controlWords}
 use Rattle.ledger.specs.Ledger.{Ledger, begins, ends}
 
 -- the gap from word `c` up to the first of the blocks above it, or to the end of the arena
-abbrev pub gapTo : ℕ → ℕ → Ledger → ℕ
-gapTo n c [] = n - c
-gapTo n c (e ∷ es) = begins e - c
+abbrev pub gapFrom : ℕ → ℕ → Ledger → ℕ
+gapFrom n c [] = n - c
+gapFrom n c (e ∷ es) = begins e - c
 
--- that gap, and the one above each block
+-- the gap from word `c` on, and the gap above each block
 abbrev pub gapsFrom : ℕ → ℕ → Ledger → List ℕ
-gapsFrom n c [] = gapTo n c [] ∷ []
-gapsFrom n c (e ∷ es) = gapTo n c (e ∷ es) ∷ gapsFrom n (ends e) es
+gapsFrom n c [] = gapFrom n c [] ∷ []
+gapsFrom n c (e ∷ es) = gapFrom n c (e ∷ es) ∷ gapsFrom n (ends e) es
 
 abbrev pub gaps : ℕ → Ledger → List ℕ
 gaps n ledger = gapsFrom n controlWords ledger

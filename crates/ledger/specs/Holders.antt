@@ -1,16 +1,13 @@
--- What a holder goes by, from events and answers alone: the number under which a block goes on, when it ends or is cut, and what was stored last.
-use Prim.Native.Nat.{ℕ, _+_, _≤_}
+-- What a holder knows from events and answers alone: the number under which a block goes on, when it ends or is cut, and what was stored last.
+use Prim.Native.Nat.{ℕ, _≤_}
 use mathlib.Core.Path.{_≡_}
-use mathlib.Core.Logic.{_⊎_}
+use mathlib.Core.Logic.{_≢_, _⊎_}
 use mathlib.Core.Bool.{cond, _&&_}
-use mathlib.Core.Option.{Option, none, some}
-use lib.Dec.{leb, eqb}
+use lib.Dec.{eqb}
 use Rattle.arena.specs.Answers.{Answer}
 use Rattle.ledger.specs.Events.{Event, call, store, Library}
-use Rattle.ledger.specs.Ledger.{Effect, empties, grants, frees, regrants, spares, effect, told, ifDone}
-use Rattle.ledger.specs.Runs.{State, answerTo, Run, begun, next}
-
--- ---- one event
+use Rattle.ledger.specs.Ledger.{Effect, empties, grants, frees, regrants, spares, effect, told, ifDone, Done}
+use Rattle.ledger.specs.Runs.{State, Allowed, answerTo, after, Run}
 
 -- the number of block `b`, once an event is done
 abbrev pub renamed : Effect → Answer → ℕ → ℕ
@@ -20,49 +17,27 @@ renamed (frees c) answer b = b
 renamed (regrants c) answer b = cond (eqb b c) (told answer .block) b
 renamed spares answer b = b
 
-abbrev pub numberAfter : Event → Answer → ℕ → ℕ
-numberAfter event answer b = ifDone answer (renamed (effect event) answer b) b
-
--- block `b` ends: it is freed, or all is started over
-abbrev pub Ended : Event → Answer → ℕ → Type 0
-Ended event answer b = (answer .code ≡ 0) × ((effect event ≡ frees b) ⊎ (effect event ≡ empties))
-
--- block `b` is cut below place `i`
-abbrev pub Cut : Event → Answer → ℕ → ℕ → Type 0
-Cut event answer b i = (answer .code ≡ 0) × (effect event ≡ regrants b) × (told answer .granted ≤ i)
-
--- what an event makes of place `i` of block `b`: the block ends, is cut below the place, the place is stored to, or what is `Still` so goes on
-pub data Fate (event : Event) (answer : Answer) (b i : ℕ) (Still : Type 0) : Type 0 where
-  ended : Ended event answer b → Fate event answer b i Still
-  cut : Cut event answer b i → Fate event answer b i Still
-  stored : (w : ℕ) → event ≡ store b i w → Fate event answer b i Still
-  kept : Still → Fate event answer b i Still
-
 -- the word at place `i` of block `b`, where `old` was there: what an event stores to that very place, otherwise `old`
 abbrev pub wordAfter : Event → ℕ → ℕ → ℕ → ℕ
 wordAfter (call c) b i old = old
 wordAfter (store c j v) b i old = cond (eqb b c && eqb i j) v old
 
--- ---- a run
+module _ (library : Library) where
+  -- the number of block `b` after an event
+  abbrev pub numberAfter : Event → State → ℕ → ℕ
+  numberAfter event s b = ifDone (answerTo library event s) (renamed (effect event) (answerTo library event s) b) b
 
--- for each block and each place: the value that was stored there last, or none
-abbrev pub Notes : Type 0
-Notes = (b i : ℕ) → Option ℕ
+  -- an event ends block `b`: it is freed, or all is started over
+  abbrev pub Ended : Event → State → ℕ → Type 0
+  Ended event s b = Done (answerTo library event s) × ((effect event ≡ frees b) ⊎ (effect event ≡ empties))
 
--- an ended block has no notes; those of a block that is granted anew go on under the number that is answered, as many as are granted
-abbrev pub carried : Effect → Answer → Notes → Notes
-carried empties answer notes b i = none
-carried grants answer notes b i = notes b i
-carried (frees c) answer notes b i = cond (eqb b c) none (notes b i)
-carried (regrants c) answer notes b i =
-    cond (eqb b (told answer .block)) (cond (leb (i + 1) (told answer .granted)) (notes c i) none) (cond (eqb b c) none (notes b i))
-carried spares answer notes b i = notes b i
+  -- an event cuts block `b` below place `i`
+  abbrev pub Cut : Event → State → ℕ → ℕ → Type 0
+  Cut event s b i = Done (answerTo library event s) × (effect event ≡ regrants b) × (told (answerTo library event s) .granted ≤ i)
 
-abbrev pub notesAfter : Event → Answer → Notes → Notes
-notesAfter (call c) answer notes = ifDone answer (carried (effect (call c)) answer notes) notes
-notesAfter (store c j v) answer notes = λ b i. cond (eqb b c && eqb i j) (some v) (notes b i)
-
--- what holders stored last
-unfoldable pub lastStored : (library : Library) {n : ℕ} {s : State} → Run library n s → Notes
-lastStored library (begun a long l) = λ b i. none
-lastStored library (next {s} run event allowed) = notesAfter event (answerTo library event s) (lastStored library run)
+  -- in a run up to a state, `v` is what was stored last at place `i` of the block that is now number `b`: it was stored just now, or it was so before an event that neither ends the block, nor cuts it below the place, nor stores to the place
+  pub data StoredLast (n : ℕ) : State → ℕ → ℕ → ℕ → Type 0 where
+    just : {s : State} → Run library n s → (b i v : ℕ) → Allowed (store b i v) (s .ledger) → StoredLast n (after library (store b i v) s) b i v
+    still : {s : State} {b i v : ℕ} → StoredLast n s b i v → (event : Event) → Allowed event (s .ledger)
+        → (Ended event s b → ⊥) → (Cut event s b i → ⊥) → ((w : ℕ) → event ≢ store b i w)
+        → StoredLast n (after library event s) (numberAfter event s b) i v

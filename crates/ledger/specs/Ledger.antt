@@ -1,5 +1,5 @@
--- The ledger: the blocks that are held, written down from events and answers alone: it never sees a word.
-use Prim.Native.Nat.{ℕ, _+_, _-_, _≤_, _<_}
+-- The ledger: the blocks that are held, written down from events and their answers alone. Whoever keeps it is never shown the arena.
+use Prim.Native.Nat.{ℕ, _+_, _-_, _<_}
 use mathlib.Core.Path.{_≡_}
 use mathlib.Core.Logic.{_⊎_, _≢_}
 use mathlib.Core.Bool.{cond}
@@ -15,7 +15,7 @@ pub record Entry : Type 0 where
   pub block : ℕ
   pub granted : ℕ
 
--- entries in the order of their numbers
+-- by rising number, as `enter` puts them
 abbrev pub Ledger : Type 0
 Ledger = List Entry
 
@@ -41,9 +41,9 @@ pub data Effect : Type 0 where
 
 abbrev pub effect : Event → Effect
 effect (call start) = empties
-effect (call (alloc n)) = grants
+effect (call (alloc w)) = grants
 effect (call (free b)) = frees b
-effect (call (realloc b n)) = regrants b
+effect (call (realloc b w)) = regrants b
 effect (call (size b)) = spares
 effect (call (view b)) = spares
 effect (call report) = spares
@@ -53,6 +53,7 @@ effect (store b i v) = spares
 abbrev pub told : Answer → Entry
 told answer = record { block = getD (answer .values) 0 0; granted = getD (answer .values) 1 0 }
 
+-- what an event that is done makes of the ledger
 abbrev pub noted : Effect → Answer → Ledger → Ledger
 noted empties answer ledger = []
 noted grants answer ledger = enter (told answer) ledger
@@ -69,6 +70,10 @@ abbrev pub ledgerAfter : Event → Answer → Ledger → Ledger
 ledgerAfter event answer ledger = ifDone answer (noted (effect event) answer ledger) ledger
 
 -- ---- how it is read
+
+-- the answer to an event that was done
+abbrev pub Done : Answer → Type 0
+Done answer = answer .code ≡ 0
 
 -- an entry stands in the ledger
 abbrev pub Listed : Ledger → Entry → Type 0
@@ -89,10 +94,6 @@ begins e = e .block - headerWords
 
 abbrev pub ends : Entry → ℕ
 ends e = e .block + e .granted
-
--- word `i` is in a block's header or one of its granted words
-abbrev pub Covers : Entry → ℕ → Type 0
-Covers e i = (begins e ≤ i) × (i < ends e)
 
 -- the granted words of all blocks and their headers
 abbrev pub heldWords : Ledger → ℕ

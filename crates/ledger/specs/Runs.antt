@@ -4,7 +4,7 @@ use mathlib.Core.Path.{_≡_}
 use mathlib.Core.Bool.{true}
 use mathlib.Core.List.{List, []}
 use lib.ListN.{length}
-use Rattle.layout.specs.Numbers.{lawful}
+use Rattle.layout.specs.Numbers.{wordValues, lawful}
 use Rattle.arena.specs.Answers.{Answer}
 use Rattle.ledger.specs.Events.{start, Event, call, store, Library, happens}
 use Rattle.ledger.specs.Ledger.{Ledger, ledgerAfter, Held}
@@ -12,10 +12,6 @@ use Rattle.ledger.specs.Ledger.{Ledger, ledgerAfter, Held}
 pub record State : Type 0 where
   pub words : List ℕ
   pub ledger : Ledger
-
--- a value that fits a word is below this number
-abbrev pub wordValues : ℕ
-wordValues = 4294967296
 
 -- every call is allowed, also one that will be refused; a holder stores only into a block that the ledger has, below its granted words, a value that fits a word
 abbrev pub Allowed : Event → Ledger → Type 0

@@ -20,8 +20,8 @@ use Rattle.arena.proofs.Copying.{length-copied, copied-other, copied-there}
 use Rattle.arena.proofs.Moving.{cut-numbers}
 use Rattle.arena.proofs.Relocating.{Relocated}
 use Rattle.ledger.specs.Ledger.{Entry, Ledger, enter, strike, Listed, ends}
-use Rattle.ledger.proofs.Blocks.{blocksFrom, Laid}
-use Rattle.ledger.proofs.Entries.{enter-listed, listed-enter, listed-struck, laid-listed, laid-order, strike-enter}
+use Rattle.ledger.proofs.Blocks.{blocksFrom}
+use Rattle.ledger.proofs.Entries.{Laid, enter-listed, listed-enter, listed-struck, laid-listed, laid-order, laid-same, strike-enter}
 use Rattle.ledger.proofs.Agreeing.{Agrees, agrees-laid, block-listed}
 use Rattle.ledger.proofs.Going.{Goes, written-listed, freed-goes, newEntry, granted-lists, granted-laid, granted-fresh, granted-lawful}
 
@@ -29,15 +29,16 @@ module _ (n : ℕ) (a : List ℕ) (ledger : Ledger) (g : Agrees n a ledger)
     (b : ℕ) (pre : List Chunk) (s : ℕ) (post : List Chunk) (is : BlockAt a b pre s post)
     (before : List Chunk) (t : ℕ) (after : List Chunk) (needed : ℕ) (same : chunksOf a ≡ before ++ free t ∷ after) (nd : Needed needed) (enough : needed ≤ t) (longer : s < needed) where
   abbrev new : Entry
-  new = newEntry n a ledger g before t after needed same nd enough
+  new = newEntry before t needed
 
   abbrev granted : List Chunk
   granted = before ++ (cut needed t ++ after)
 
   -- the words once the need was granted and the words were copied
-  abbrev there : List ℕ
-  there = copied b (new .block) (s - headerWords) (written granted a)
+  abbrev copiedWords : List ℕ
+  copiedWords = copied b (new .block) (s - headerWords) (written granted a)
 
+  -- the ledger with the old block and the new one
   abbrev both : Ledger
   both = enter new ledger
 
@@ -51,8 +52,8 @@ module _ (n : ℕ) (a : List ℕ) (ledger : Ledger) (g : Agrees n a ledger)
   before-copy : (e : Entry) → Listed both e → (i : ℕ) → i < e .granted → getD (written granted a) (e .block + i) 0 ≡ getD a (e .block + i) 0
   before-copy e l = written-listed granted a (granted-lawful n a ledger g before t after needed same nd enough .sizes) e (rw both-lists at l)
 
-  module _ (r : Relocated there b s granted) where
-    both-agree : Agrees n there both
+  module _ (r : Relocated copiedWords b s granted) where
+    both-agree : Agrees n copiedWords both
     both-agree =
         record {
           is-sound = r .is-sound;
@@ -61,8 +62,8 @@ module _ (n : ℕ) (a : List ℕ) (ledger : Ledger) (g : Agrees n a ledger)
         }
 
     -- the old block is freed
-    freed : Goes n there both (λ c. c) (written (joined (r .pre ++ free s ∷ r .post)) there) (strike b both)
-    freed = freed-goes n there both both-agree b (r .pre) s (r .post) (r .old)
+    freed : Goes n copiedWords both (λ c. c) (written (joined (r .pre ++ free s ∷ r .post)) copiedWords) (strike b both)
+    freed = freed-goes n copiedWords both both-agree b (r .pre) s (r .post) (r .old)
 
     old-listed : Listed ledger (record { block = b; granted = s - headerWords })
     old-listed = block-listed n a ledger g b pre s post is
@@ -76,21 +77,16 @@ module _ (n : ℕ) (a : List ℕ) (ledger : Ledger) (g : Agrees n a ledger)
     room = omega (arith, cut-numbers needed t enough .enough)
 
     -- the old block has all its words in the new one
-    copied-new : (e : Entry) → Listed ledger e → e .block ≡ b → (i : ℕ) → i < e .granted → getD there (new .block + i) 0 ≡ getD a (e .block + i) 0
+    copied-new : (e : Entry) → Listed ledger e → e .block ≡ b → (i : ℕ) → i < e .granted → getD copiedWords (new .block + i) 0 ≡ getD a (e .block + i) 0
     copied-new e l q i h =
         let m : ends new ≤ n = laid-listed firstChunk n both new both-laid (enter-listed new ledger) .1 in
-        let f : e .granted ≡ s - headerWords = all (laid-order firstChunk n ledger e _ (agrees-laid n a ledger g) l old-listed) in
+        let f : e .granted ≡ s - headerWords = ap (λ (d : Entry). d .granted) (laid-same firstChunk n ledger e _ (agrees-laid n a ledger g) l old-listed q) in
         copied-there b (new .block) (written granted a) (s - headerWords) i (omega arith) (rw length-written (omega (arith, g .long, room)))
         ∙ ap (λ (c : ℕ). getD (written granted a) (c + i) 0) (sym q)
         ∙ before-copy e (listed-enter new ledger e l) i h
-      where
-        all : (e ≡ record { block = b; granted = s - headerWords }) ⊎ ((ends e + headerWords ≤ b) ⊎ (b + (s - headerWords) + headerWords ≤ e .block)) → e .granted ≡ s - headerWords
-        all (inl p) = ap (λ (f : Entry). f .granted) p
-        all (inr (inl p)) = absurd (omega arith)
-        all (inr (inr p)) = absurd (omega arith)
 
     -- every other block is left alone
-    copied-beside : (f : Entry) → Listed both f → f .block ≢ new .block → (i : ℕ) → i < f .granted → getD there (f .block + i) 0 ≡ getD a (f .block + i) 0
+    copied-beside : (f : Entry) → Listed both f → f .block ≢ new .block → (i : ℕ) → i < f .granted → getD copiedWords (f .block + i) 0 ≡ getD a (f .block + i) 0
     copied-beside f l q i h =
         copied-other b (new .block) (written granted a) (s - headerWords) (f .block + i) (beside (laid-order firstChunk n both f new both-laid l (enter-listed new ledger)))
         ∙ before-copy f l i h
@@ -102,13 +98,13 @@ module _ (n : ℕ) (a : List ℕ) (ledger : Ledger) (g : Agrees n a ledger)
 
     -- a block that goes on keeps its words, up to the free of the old one
     carried-on : (e f : Entry) → Listed ledger e → Listed both f → (moved : Bool) → eqb (e .block) b ≡ moved → f .block ≡ cond moved (new .block) (e .block)
-        → (i : ℕ) → i < e .granted → i < f .granted → getD there (f .block + i) 0 ≡ getD a (e .block + i) 0
-    carried-on e f l m true q p i h j = ap (λ (c : ℕ). getD there (c + i) 0) p ∙ copied-new e l (eqb-true (e .block) b q) i h
+        → (i : ℕ) → i < e .granted → i < f .granted → getD copiedWords (f .block + i) 0 ≡ getD a (e .block + i) 0
+    carried-on e f l m true q p i h j = ap (λ (c : ℕ). getD copiedWords (c + i) 0) p ∙ copied-new e l (eqb-true (e .block) b q) i h
     carried-on e f l m false q p i h j =
         copied-beside f m (λ u. granted-fresh n a ledger g before t after needed same nd enough e l (sym p ∙ u)) i j
         ∙ ap (λ (c : ℕ). getD a (c + i) 0) p
 
-    pub moved-goes : Goes n a ledger (λ c. cond (eqb c b) (new .block) c) (written (released (held b granted)) there) (enter new (strike b ledger))
+    pub moved-goes : Goes n a ledger (λ c. cond (eqb c b) (new .block) c) (written (released (held b granted)) copiedWords) (enter new (strike b ledger))
     moved-goes =
         rw (r .leaves, ← strike-enter b new new-other firstChunk n ledger (agrees-laid n a ledger g))
         (record {

@@ -5,7 +5,7 @@ use mathlib.Core.Bool.{true, false, true≢false}
 use mathlib.Core.List.{List, [], _∷_, _++_}
 use Prim.Native.Nat.{ℕ, _+_, _-_, _≤_}
 use native.Mathlib.Omega.{arith}
-use lib.ListN.{length, getD, take, drop}
+use lib.ListN.{length, take, drop}
 use Rattle.layout.specs.Numbers.{controlWords, firstChunk, headerWords, lawful, need}
 use Rattle.layout.specs.Walk.{sound, chunksOf}
 use Rattle.layout.specs.Reasons.{number}
@@ -21,31 +21,26 @@ use Rattle.arena.proofs.Moving.{cut-numbers}
 use Rattle.arena.proofs.Cases.{Case, refuses, does, Allots, allots, alloc-case}
 use Rattle.arena.proofs.Regranting.{Regrants, shrinks, grows, moves, realloc-case}
 use Rattle.arena.proofs.Corners.{view-empty}
-use Rattle.arena.proofs.Reasons.{start-refused, alloc-refused, free-refused, realloc-refused, size-refused, report-refused}
+use Rattle.arena.proofs.Reasons.{arena-refused, start-refused, alloc-refused, free-refused, realloc-refused, size-refused, report-refused}
 use Rattle.ledger.specs.Events.{Call, start, alloc, free, realloc, size, view, report, ours}
-use Rattle.ledger.specs.Ledger.{Entry, Ledger, told, Listed, Unlisted, begins, ends, Covers, heldWords}
-use Rattle.ledger.specs.Demands.{Tells}
-use Rattle.ledger.proofs.Blocks.{Laid, blocks-words, blocks-count, listed-at}
-use Rattle.ledger.proofs.Entries.{laid-listed}
-use Rattle.ledger.proofs.Agreeing.{Agrees, agrees-laid, agrees-lawful, listed-block, unlisted-block}
-
--- the entries above another lie above its end
-laid-above : (c d : ℕ) (below : Ledger) (e : Entry) (above : Ledger) → Laid c d (below ++ e ∷ above) → Laid (ends e) d above
-laid-above c d [] e above h = h .1
-laid-above c d (f ∷ below) e above h = laid-above (ends f) d below e above (h .1)
+use Rattle.ledger.specs.Ledger.{Entry, Ledger, told, Listed, Unlisted, begins, ends, heldWords}
+use Rattle.ledger.specs.Demands.{freeWordsIn, Tells}
+use Rattle.ledger.proofs.Blocks.{blocks-words, blocks-count}
+use Rattle.ledger.proofs.Entries.{listed-at, laid-listed, laid-above}
+use Rattle.ledger.proofs.Agreeing.{Agrees, chunked-block, agrees-laid, agrees-lawful, listed-chunked, unlisted-block}
 
 -- ---- the reasons that an arena itself gives
 
--- a call that is refused for the arena's length has an unlawful one, and a call that is refused for damage has an arena that is not sound
+-- a call that gives one of the first two reasons has an unlawful length, or an arena that is not sound
 gate-refused : (a : List ℕ) (c : Call)
     → (ours c a .answer .code ≡ number Length → lawful (length a) ≡ false) × (ours c a .answer .code ≡ number Damaged → sound a ≡ false)
 gate-refused a start = (λ e. start-refused a Length .0 e .1, λ e. absurd (omega (arith, ap number (start-refused a Damaged .0 e .0))))
-gate-refused a (alloc n) = (alloc-refused a n Length .0, λ e. alloc-refused a n Damaged .0 e .1)
-gate-refused a (free b) = (free-refused a b Length .0, λ e. free-refused a b Damaged .0 e .1)
-gate-refused a (realloc b n) = (realloc-refused a b n Length .0, λ e. realloc-refused a b n Damaged .0 e .1)
-gate-refused a (size b) = (size-refused a b Length .0, λ e. size-refused a b Damaged .0 e .1)
+gate-refused a (alloc w) = arena-refused a _ _ _ _ (λ why. alloc-refused a w why .0)
+gate-refused a (free b) = arena-refused a _ _ _ _ (λ why. free-refused a b why .0)
+gate-refused a (realloc b w) = arena-refused a _ _ _ _ (λ why. realloc-refused a b w why .0)
+gate-refused a (size b) = arena-refused a _ _ _ _ (λ why. size-refused a b why .0)
 gate-refused a (view b) = (λ e. absurd (omega arith), λ e. absurd (omega arith))
-gate-refused a report = (report-refused a Length .0, λ e. report-refused a Damaged .0 e .1)
+gate-refused a report = arena-refused a _ _ _ _ (λ why. report-refused a why .0)
 
 -- ---- what is granted
 
@@ -71,13 +66,13 @@ realloc-grants a b w values after (moves e r pre s post is l before t behind gap
 module _ (n : ℕ) (a : List ℕ) (ledger : Ledger) (agrees : Agrees n a ledger) where
   -- ---- where the blocks lie
 
-  pub lies-apart : (below between above : Ledger) (e f : Entry) → ledger ≡ below ++ e ∷ (between ++ f ∷ above) → (i : ℕ) → Covers e i → Covers f i → ⊥
-  lies-apart below between above e f q i in-e in-f =
-      let h = laid-above controlWords n below e (between ++ f ∷ above) (rw q at (agrees-laid n a ledger agrees)) in
+  pub lies-apart : (below between above : Ledger) (e f : Entry) → ledger ≡ below ++ e ∷ (between ++ f ∷ above) → ends e ≤ begins f
+  lies-apart below between above e f q =
+      let h = laid-above firstChunk n below e (between ++ f ∷ above) (rw q at (agrees-laid n a ledger agrees)) in
       omega (arith, laid-listed (ends e) n (between ++ f ∷ above) f h (listed-at between f above) .0)
 
   pub lies-inside : (e : Entry) → Listed ledger e → (controlWords ≤ begins e) × (ends e ≤ n)
-  lies-inside e listed = let h = laid-listed controlWords n ledger e (agrees-laid n a ledger agrees) listed in (omega arith, h .1)
+  lies-inside e listed = let h = laid-listed firstChunk n ledger e (agrees-laid n a ledger agrees) listed in (omega arith, h .1)
 
   -- ---- what the answers tell
 
@@ -85,7 +80,7 @@ module _ (n : ℕ) (a : List ℕ) (ledger : Ledger) (agrees : Agrees n a ledger)
   unfolding reportOn
   reported = rw (sound-gate a (agrees .is-sound))
 
-  pub adds-up : getD (reportOn a .answer .values) 0 0 + heldWords ledger ≡ n - controlWords
+  pub adds-up : freeWordsIn (reportOn a .answer) + heldWords ledger ≡ n - controlWords
   adds-up =
       let law = agrees-lawful n a ledger agrees in
       rw (reported, agrees .lists) (omega (arith, blocks-words firstChunk (chunksOf a) (law .sizes), law .fills))
@@ -93,15 +88,15 @@ module _ (n : ℕ) (a : List ℕ) (ledger : Ledger) (agrees : Agrees n a ledger)
   sized : (e : Entry) → Listed ledger e → sizeOn a (e .block) .answer ≡ success (e .granted ∷ [])
   unfolding sizeOn
   sized e listed =
-      let k = listed-block n a ledger agrees e listed in
-      rw (sound-gate a (agrees .is-sound), block-held a (e .block) (k .pre) (k .s) (k .post) (agrees .is-sound) (k .stands))
-      (ap (λ (words : ℕ). success (words ∷ [])) (sym (k .granted-is)))
+      let (above, k) = listed-chunked n a ledger agrees e listed in
+      rw (sound-gate a (agrees .is-sound), block-held a (e .block) (k .pre) (k .s) (k .post) (agrees .is-sound) (chunked-block k))
+      (ap (λ (f : Entry). success (f .granted ∷ [])) (sym (k .is)))
 
   freed : (e : Entry) → Listed ledger e → freeOn a (e .block) .answer .code ≡ 0
   unfolding freeOn
   freed e listed =
-      let k = listed-block n a ledger agrees e listed in
-      rw (sound-gate a (agrees .is-sound), block-held a (e .block) (k .pre) (k .s) (k .post) (agrees .is-sound) (k .stands))
+      let (above, k) = listed-chunked n a ledger agrees e listed in
+      rw (sound-gate a (agrees .is-sound), block-held a (e .block) (k .pre) (k .s) (k .post) (agrees .is-sound) (chunked-block k))
 
   viewed : (e : Entry) → Listed ledger e → viewOn a (e .block) ≡ take (e .granted) (drop (e .block) a)
   unfolding viewOn
@@ -120,9 +115,9 @@ module _ (n : ℕ) (a : List ℕ) (ledger : Ledger) (agrees : Agrees n a ledger)
         free-listed = freed;
         realloc-enough = λ b w. enough-granted w (realloc-grants a b w) (realloc-case a b w);
         view-unlisted = λ b un. ap success (view-empty a b .1 (λ e. omega (arith, refused-unlisted b (size-refused a b NotABlock) .1 un)));
-        free-unlisted = λ b. refused-unlisted b (free-refused a b NotABlock);
-        realloc-unlisted = λ b w. refused-unlisted b (realloc-refused a b w NotABlock);
-        size-unlisted = λ b. refused-unlisted b (size-refused a b NotABlock);
+        free-known = λ b. refused-unlisted b (free-refused a b NotABlock);
+        realloc-known = λ w b. refused-unlisted b (realloc-refused a b w NotABlock);
+        size-known = λ b. refused-unlisted b (size-refused a b NotABlock);
         size-listed = sized;
         view-listed = λ e listed. ap success (viewed e listed);
         report-done = ap (λ (answer : Answer). answer .code) reported;
