@@ -14,3 +14,5 @@ pub mod Onward
 pub mod Runs
 pub mod Lasting
 pub mod Demands
+pub mod Examples
+pub mod Useless

@@ -1,30 +1,30 @@
 -- What a ledger that agrees with an arena shows: where its blocks lie, what they add up to, and what the answers tell of them.
-use mathlib.Core.Path.{_≡_, sym, ap, _∙_}
+use mathlib.Core.Path.{_≡_, refl, sym, ap, _∙_}
 use mathlib.Core.Logic.{_↔_, Iff·trans}
-use mathlib.Core.Bool.{true, false, true≢false}
+use mathlib.Core.Bool.{Bool, true, false, true≢false, cond}
 use mathlib.Core.List.{List, [], _∷_, _++_}
 use Prim.Native.Nat.{ℕ, _+_, _-_, _≤_}
 use native.Mathlib.Omega.{arith}
+use borrow.Author.Tests.{leb-false}
 use lib.ListN.{length, take, drop}
-use Rattle.layout.specs.Numbers.{controlWords, firstChunk, headerWords, lawful, need}
+use Rattle.layout.specs.Numbers.{controlWords, firstChunk, headerWords, leastSplit, lawful, need}
 use Rattle.layout.specs.Walk.{sound, chunksOf}
 use Rattle.layout.specs.Reasons.{number}
 use Rattle.layout.specs.declared.Reason.{Reason}
 use Rattle.layout.specs.declared.Reason.the-variants.{Length, Damaged, NotABlock}
 use Rattle.layout.proofs.Reasons.{number-positive}
 use Rattle.arena.specs.Answers.{Answer, Outcome, success}
-use Rattle.arena.specs.Rules.{taken, freeWords, widest, liveBlocks, freeChunks}
+use Rattle.arena.specs.Rules.{splits, taken, freeWords, widest, liveBlocks, freeChunks}
 use Rattle.arena.specs.Calls.{freeOn, sizeOn, viewOn, reportOn}
 use Rattle.arena.proofs.Gates.{sound-lawful, sound-gate}
 use Rattle.arena.proofs.Blocks.{NoBlock, block-held}
-use Rattle.arena.proofs.Moving.{cut-numbers}
 use Rattle.arena.proofs.Cases.{Case, refuses, does, Allots, allots, alloc-case}
 use Rattle.arena.proofs.Regranting.{Regrants, shrinks, grows, moves, realloc-case}
 use Rattle.arena.proofs.Corners.{view-empty}
 use Rattle.arena.proofs.Reasons.{arena-refused, start-refused, alloc-refused, free-refused, realloc-refused, size-refused, report-refused}
 use Rattle.ledger.specs.Events.{Call, start, alloc, free, realloc, size, view, report, ours}
-use Rattle.ledger.specs.Ledger.{Entry, Ledger, told, Listed, Unlisted, begins, ends, heldWords}
-use Rattle.ledger.specs.Demands.{freeWordsIn, Tells}
+use Rattle.ledger.specs.Ledger.{Entry, Ledger, told, Done, Listed, Unlisted, begins, ends, heldWords}
+use Rattle.ledger.specs.Demands.{HasNeed, freeWordsIn, Tells}
 use Rattle.ledger.proofs.Blocks.{blocks-words, blocks-count}
 use Rattle.ledger.proofs.Entries.{listed-at, laid-listed, laid-above}
 use Rattle.ledger.proofs.Agreeing.{Agrees, chunked-block, agrees-laid, agrees-lawful, listed-chunked, unlisted-block}
@@ -44,24 +44,28 @@ gate-refused a report = arena-refused a _ _ _ _ (λ why. report-refused a why .0
 
 -- ---- what is granted
 
--- of words that are enough for the need of a request, at least the request is granted
-need-granted : (w s : ℕ) → need w ≤ s → w ≤ taken (need w) s - headerWords
-need-granted w s enough = omega (arith, cut-numbers (need w) s enough .enough)
+-- what is taken of words that are enough is the need, with few over, and it is the granted words and their header
+need-taken : (w s : ℕ) → need w ≤ s → HasNeed w (headerWords + (taken (need w) s - headerWords))
+need-taken w s enough = go (splits (need w) s) refl
+  where
+    go : (split : Bool) → splits (need w) s ≡ split → HasNeed w (headerWords + (cond split (need w) s - headerWords))
+    go true e = omega arith
+    go false e = omega (arith, leb-false leastSplit (s - need w) e)
 
--- a call that grants is refused, or grants as many words as were asked
-enough-granted : {fields : ℕ} {a : List ℕ} {Refuses : Reason → Type 0} {Does : List ℕ → List ℕ → Type 0} {outcome : Outcome} (w : ℕ)
-    → ((values after : List ℕ) → Does values after → w ≤ told (success values) .granted) → Case fields a Refuses Does outcome
-    → outcome .answer .code ≡ 0 → w ≤ told (outcome .answer) .granted
-enough-granted w f (refuses why r) e = absurd (omega (arith, number-positive why))
-enough-granted w f (does {values} {after} d) e = f values after d
+-- a call that grants is refused, or grants the need of the request
+need-granted : {fields : ℕ} {a : List ℕ} {Refuses : Reason → Type 0} {Does : List ℕ → List ℕ → Type 0} {outcome : Outcome} (w : ℕ)
+    → ((values after : List ℕ) → Does values after → HasNeed w (headerWords + told (success values) .granted)) → Case fields a Refuses Does outcome
+    → Done (outcome .answer) → HasNeed w (headerWords + told (outcome .answer) .granted)
+need-granted w f (refuses why r) e = absurd (omega (arith, number-positive why))
+need-granted w f (does {values} {after} d) e = f values after d
 
-alloc-grants : (a : List ℕ) (w : ℕ) (values after : List ℕ) → Allots a w values after → w ≤ told (success values) .granted
-alloc-grants a w values after (allots e r pre s post is) = need-granted w s (is .enough)
+alloc-grants : (a : List ℕ) (w : ℕ) (values after : List ℕ) → Allots a w values after → HasNeed w (headerWords + told (success values) .granted)
+alloc-grants a w values after (allots e r pre s post is) = need-taken w s (is .enough)
 
-realloc-grants : (a : List ℕ) (b w : ℕ) (values after : List ℕ) → Regrants a b w values after → w ≤ told (success values) .granted
-realloc-grants a b w values after (shrinks e r pre s post is l) = need-granted w s l
-realloc-grants a b w values after (grows e r pre s t post is l m) = need-granted w (s + t) m
-realloc-grants a b w values after (moves e r pre s post is l before t behind gap block at-is ks same) = need-granted w t (gap .enough)
+realloc-grants : (a : List ℕ) (b w : ℕ) (values after : List ℕ) → Regrants a b w values after → HasNeed w (headerWords + told (success values) .granted)
+realloc-grants a b w values after (shrinks e r pre s post is l) = need-taken w s l
+realloc-grants a b w values after (grows e r pre s t post is l m) = need-taken w (s + t) m
+realloc-grants a b w values after (moves e r pre s post is l before t behind gap block at-is ks same) = need-taken w t (gap .enough)
 
 module _ (n : ℕ) (a : List ℕ) (ledger : Ledger) (agrees : Agrees n a ledger) where
   -- ---- where the blocks lie
@@ -111,9 +115,9 @@ module _ (n : ℕ) (a : List ℕ) (ledger : Ledger) (agrees : Agrees n a ledger)
       record {
         never-length = λ c e. true≢false (sym (sound-lawful a (agrees .is-sound)) ∙ gate-refused a c .0 e);
         never-damaged = λ c e. true≢false (sym (agrees .is-sound) ∙ gate-refused a c .1 e);
-        alloc-enough = λ w. enough-granted w (alloc-grants a w) (alloc-case a w);
+        alloc-grants = λ w. need-granted w (alloc-grants a w) (alloc-case a w);
         free-listed = freed;
-        realloc-enough = λ b w. enough-granted w (realloc-grants a b w) (realloc-case a b w);
+        realloc-grants = λ b w. need-granted w (realloc-grants a b w) (realloc-case a b w);
         view-unlisted = λ b un. ap success (view-empty a b .1 (λ e. omega (arith, refused-unlisted b (size-refused a b NotABlock) .1 un)));
         free-known = λ b. refused-unlisted b (free-refused a b NotABlock);
         realloc-known = λ w b. refused-unlisted b (realloc-refused a b w NotABlock);

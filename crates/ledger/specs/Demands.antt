@@ -5,7 +5,7 @@ use mathlib.Core.Logic.{_≢_, _↔_, _⊎_}
 use mathlib.Core.Bool.{true}
 use mathlib.Core.List.{List, [], _∷_, _++_}
 use lib.ListN.{length, getD, take, drop}
-use Rattle.layout.specs.Numbers.{controlWords, headerWords, lawful, greatestRequest, need}
+use Rattle.layout.specs.Numbers.{controlWords, headerWords, leastSplit, lawful, greatestRequest, need}
 use Rattle.layout.specs.Reasons.{number}
 use Rattle.layout.specs.declared.Reason.{Reason}
 use Rattle.layout.specs.declared.Reason.the-variants.{Length, Damaged, NotABlock, NoRoom}
@@ -19,6 +19,10 @@ use Rattle.ledger.specs.Holders.{wordAfter, numberAfter, Ended, StoredLa
 -- a request to which neither reason 4 nor reason 5 applies; in a run 1 and 2 never apply, nor 3 to a block of the ledger
 abbrev pub LawfulRequest : ℕ → ℕ → Type 0
 LawfulRequest n w = (1 ≤ w) × (w ≤ greatestRequest n)
+
+-- `s` words are the need of a request, with fewer words over than are split off
+abbrev pub HasNeed : ℕ → ℕ → Type 0
+HasNeed w s = (need w ≤ s) × (s < need w + leastSplit)
 
 -- a call is refused for this reason exactly when `Short` is so, and done exactly when it is not
 pub record RefusedWhen (why : Reason) (Short : Type 0) (answer : Answer) : Type 0 where
@@ -90,19 +94,20 @@ module _ (library : Library) where
   abbrev pub NeedsBlock : (ℕ → Call) → List ℕ → Ledger → Type 0
   NeedsBlock calls a ledger = (b : ℕ) → (library (calls b) a .answer .code ≡ number NotABlock) ↔ Unlisted ledger b
 
-  -- a call that is done grants as many words as are asked for, or more
-  abbrev pub GrantsEnough : (ℕ → Call) → List ℕ → Type 0
-  GrantsEnough calls a = (w : ℕ) → Done (library (calls w) a .answer) → w ≤ told (library (calls w) a .answer) .granted
+  -- a call that is done grants the need of its request, header counted
+  abbrev pub GrantsNeed : (ℕ → Call) → List ℕ → Type 0
+  GrantsNeed calls a =
+      (w : ℕ) → Done (library (calls w) a .answer) → HasNeed w (headerWords + told (library (calls w) a .answer) .granted)
 
   -- what the answers tell of an arena in a run: which blocks there are, how long they are, and what they hold
   pub record Tells (a : List ℕ) (ledger : Ledger) : Type 0 where
     pub never-length : (c : Call) → library c a .answer .code ≢ number Length
     pub never-damaged : (c : Call) → library c a .answer .code ≢ number Damaged
-    pub alloc-enough : GrantsEnough alloc a
+    pub alloc-grants : GrantsNeed alloc a
     pub free-known : NeedsBlock free a ledger
     pub free-listed : (e : Entry) → Listed ledger e → Done (library (free (e .block)) a .answer)
     pub realloc-known : (w : ℕ) → NeedsBlock (λ b. realloc b w) a ledger
-    pub realloc-enough : (b : ℕ) → GrantsEnough (realloc b) a
+    pub realloc-grants : (b : ℕ) → GrantsNeed (realloc b) a
     pub size-known : NeedsBlock size a ledger
     pub size-listed : (e : Entry) → Listed ledger e → library (size (e .block)) a .answer ≡ success (e .granted ∷ [])
     pub view-listed : (e : Entry) → Listed ledger e → library (view (e .block)) a .answer ≡ success (take (e .granted) (drop (e .block) a))

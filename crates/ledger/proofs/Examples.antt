@@ -1,0 +1,283 @@
+-- Runs that are there, computed: that of document 01's table, and its move, with what was stored last in its blocks.
+use Prim.Native.Nat.{ℕ, _<_}
+use mathlib.Core.Path.{_≡_, refl, ap}
+use mathlib.Core.Logic.{_≢_, inl, ⊎-elim}
+use mathlib.Core.List.{List, [], _∷_, _++_, map}
+use native.Mathlib.Omega.{arith}
+use lib.ListN.{set, replicate, take, drop}
+use Rattle.layout.specs.Chunks.{free as freeChunk, live as liveChunk, header, write, written}
+use Rattle.layout.specs.Walk.{meet, walk, walkFrom, walked, sound, chunksOf}
+use Rattle.layout.specs.Reasons.{arenaGate, requestGate}
+use Rattle.arena.specs.Answers.{Answer, success}
+use Rattle.arena.specs.Spots.{lowest}
+use Rattle.arena.specs.Rules.{joined, copied}
+use Rattle.arena.specs.Calls.{startOn, allocBy, freeOn, reallocOn, reportOn}
+use Rattle.ledger.specs.Events.{Call, start, alloc, free, realloc, report, Event, call, store, ours}
+use Rattle.ledger.specs.Ledger.{Entry, enter, strike, told}
+use Rattle.ledger.specs.Gaps.{gaps}
+use Rattle.ledger.specs.Runs.{State, Allowed, answerTo, after, Run, begun, next}
+use Rattle.ledger.specs.Holders.{numberAfter, Ended, Cut, StoredLast, just, still}
+
+-- ---- how a run is played
+
+-- the state after events
+abbrev afterAll : List Event → State → State
+afterAll [] s = s
+afterAll (event ∷ events) s = afterAll events (after ours event s)
+
+-- each event is allowed when its turn comes
+abbrev AllAllowed : List Event → State → Type 0
+AllAllowed [] s = Unit {0}
+AllAllowed (event ∷ events) s = Allowed event (s .ledger) × AllAllowed events (after ours event s)
+
+-- a run goes on with events
+abbrev play : {n : ℕ} {s : State} → Run ours n s → (events : List Event) → AllAllowed events s → Run ours n (afterAll events s)
+play run [] allowed = run
+play run (event ∷ events) allowed = play (next run event (allowed .0)) events (allowed .1)
+
+-- what a run's calls answered, the start first
+abbrev answers : {n : ℕ} {s : State} → Run ours n s → List Answer
+answers (begun a long l) = ours start a .answer ∷ []
+answers (next {s} run (call c) allowed) = answers run ++ ours c (s .words) .answer ∷ []
+answers (next {s} run (store b i v) allowed) = answers run
+
+-- calls are always allowed
+pub calls-allowed : (calls : List Call) (s : State) → AllAllowed (map call calls) s
+calls-allowed [] s = tt
+calls-allowed (c ∷ cs) s = (tt, calls-allowed cs (after ours (call c) s))
+
+-- a block and its granted words
+abbrev entry : ℕ → ℕ → Entry
+entry block granted = record { block = block; granted = granted }
+
+-- ---- the table of document 01
+
+-- a row: a call, then the code and the fields of its answer
+abbrev row : Call → ℕ → List ℕ → Call × Answer
+row c code values = (c, record { code = code; values = values })
+
+-- the rows after the start in which a call is made, each beside the document's own
+abbrev rows : List (Call × Answer)
+rows =
+    row (alloc 5) 0 (26 ∷ 6 ∷ [])  -- 020005: 0200001A0006
+    ∷ row (alloc 1) 0 (22 ∷ 2 ∷ [])  -- 020001: 020000160002
+    ∷ row (alloc 10) 0 (10 ∷ 10 ∷ [])  -- 02000A: 0200000A000A
+    ∷ row report 0 (6 ∷ 4 ∷ 3 ∷ 1 ∷ [])  -- 05: 05000006000400030001
+    ∷ row (free 22) 0 []  -- 030016: 0300
+    ∷ row (free 22) 3 []  -- 030016: 0303
+    ∷ row (alloc 4) 0 (4 ∷ 4 ∷ [])  -- 020004: 020000040004
+    ∷ row (realloc 10 13) 0 (10 ∷ 14 ∷ [])  -- 04000A000D: 0400000A000E
+    ∷ row report 0 (0 ∷ 0 ∷ 3 ∷ 0 ∷ [])  -- 05: 05000000000000030000
+    ∷ row (alloc 1) 6 (0 ∷ 0 ∷ [])  -- 020001: 020600000000
+    ∷ row (realloc 26 7) 6 (0 ∷ 0 ∷ [])  -- 04001A0007: 040600000000
+    ∷ row (free 10) 0 []  -- 03000A: 0300
+    ∷ row (alloc 11) 0 (10 ∷ 14 ∷ [])  -- 02000B: 0200000A000E
+    ∷ row (alloc 29) 5 (0 ∷ 0 ∷ [])  -- 02001D: 020500000000
+    ∷ row (alloc 0) 4 (0 ∷ 0 ∷ [])  -- 020000: 020400000000
+    ∷ []
+
+abbrev rowCalls : List Call
+rowCalls = map (λ (r : Call × Answer). r .0) rows
+
+abbrev rowAnswers : List Answer
+rowAnswers = map (λ (r : Call × Answer). r .1) rows
+
+-- an arena of 32 words, all zero, is started
+abbrev fresh : State
+fresh = record { words = ours start (replicate 32 0) .words; ledger = [] }
+
+abbrev freshRun : Run ours 32 fresh
+freshRun = begun (replicate 32 0) refl refl
+
+abbrev pub table : Run ours 32 (afterAll (map call rowCalls) fresh)
+table = play freshRun (map call rowCalls) (calls-allowed rowCalls fresh)
+
+-- 010020: 0100, and then what the rows say
+pub table-answers : answers table ≡ success [] ∷ rowAnswers
+unfolding startOn allocBy freeOn reallocOn reportOn arenaGate requestGate sound chunksOf walked walkFrom walk meet lowest joined copied written write header
+table-answers = refl
+
+-- three blocks are held at the end
+pub table-ledger : afterAll (map call rowCalls) fresh .ledger ≡ entry 4 4 ∷ entry 10 14 ∷ entry 26 6 ∷ []
+unfolding startOn allocBy freeOn reallocOn reportOn arenaGate requestGate sound chunksOf walked walkFrom walk meet lowest joined copied written write header enter strike
+table-ledger = refl
+
+-- what the first five rows leave: blocks 10 and 26, and the gaps below, between and above them
+pub fifth-ledger : afterAll (map call (take 5 rowCalls)) fresh .ledger ≡ entry 10 10 ∷ entry 26 6 ∷ []
+unfolding startOn allocBy freeOn reallocOn reportOn arenaGate requestGate sound chunksOf walked walkFrom walk meet lowest joined copied written write header enter strike
+fifth-ledger = refl
+
+pub fifth-gaps : gaps 32 (afterAll (map call (take 5 rowCalls)) fresh .ledger) ≡ 6 ∷ 4 ∷ 0 ∷ []
+fifth-gaps = ap (gaps 32) fifth-ledger
+
+-- ---- what was stored last, over the events of the runs below
+
+-- what two constructors that are said to be equal come to
+clash : _≡_ {A = ℕ} 0 1 → ⊥
+clash e = omega arith
+
+-- it stays so where another place of the block is stored to
+stored-elsewhere : {s : State} {b i v : ℕ} → StoredLast ours 32 s b i v → (j w : ℕ) → Allowed (store b j w) (s .ledger) → i ≢ j
+    → StoredLast ours 32 (after ours (store b j w) s) b i v
+stored-elsewhere {b} last j w allowed other =
+    still last (store b j w) allowed
+    (λ ended. ⊎-elim (λ is. clash cc) (λ is. clash cc) (ended .1)) (λ cut. let is = cut .1 in clash cc) (λ v is. other cc)
+
+-- and where the block is regranted with the place
+regranted : {s : State} {b i v : ℕ} → StoredLast ours 32 s b i v → (w : ℕ) → i < told (answerTo ours (call (realloc b w)) s) .granted
+    → StoredLast ours 32 (after ours (call (realloc b w)) s) (numberAfter ours (call (realloc b w)) s b) i v
+regranted {b} last w kept =
+    still last (call (realloc b w)) tt
+    (λ ended. ⊎-elim (λ is. clash cc) (λ is. clash cc) (ended .1)) (λ cut. omega (arith, kept, cut .2)) (λ v is. clash cc)
+
+-- ---- the move of document 01, where the holder stores two words first
+
+-- blocks 30 and 26 are granted
+abbrev heldState : State
+heldState =
+    record {
+      words =
+          32 ∷ 2 ∷ 22 ∷ 0 ∷ 0 ∷ 0 ∷ 0 ∷ 0
+          ∷ 0 ∷ 0 ∷ 0 ∷ 0 ∷ 0 ∷ 0 ∷ 0 ∷ 0
+          ∷ 0 ∷ 0 ∷ 0 ∷ 0 ∷ 0 ∷ 0 ∷ 0 ∷ 0
+          ∷ 4 ∷ 4294967295 ∷ 0 ∷ 0 ∷ 4 ∷ 4294967295 ∷ 0 ∷ 0
+          ∷ [];
+      ledger = entry 26 2 ∷ entry 30 2 ∷ [];
+    }
+
+unfoldable pub held : Run ours 32 heldState
+unfolding startOn allocBy arenaGate requestGate sound chunksOf walked walkFrom walk meet lowest written write header enter
+held = play freshRun (call (alloc 2) ∷ call (alloc 2) ∷ []) (tt, (tt, tt))
+
+-- block 26 holds a 5 and a 7
+abbrev storedState : State
+storedState =
+    record {
+      words =
+          32 ∷ 2 ∷ 22 ∷ 0 ∷ 0 ∷ 0 ∷ 0 ∷ 0
+          ∷ 0 ∷ 0 ∷ 0 ∷ 0 ∷ 0 ∷ 0 ∷ 0 ∷ 0
+          ∷ 0 ∷ 0 ∷ 0 ∷ 0 ∷ 0 ∷ 0 ∷ 0 ∷ 0
+          ∷ 4 ∷ 4294967295 ∷ 5 ∷ 7 ∷ 4 ∷ 4294967295 ∷ 0 ∷ 0
+          ∷ [];
+      ledger = entry 26 2 ∷ entry 30 2 ∷ [];
+    }
+
+abbrev five-allowed : Allowed (store 26 0 5) (heldState .ledger)
+five-allowed = ((entry 26 2, inl refl, refl, omega arith), omega arith)
+
+abbrev seven-allowed : Allowed (store 26 1 7) (heldState .ledger)
+seven-allowed = ((entry 26 2, inl refl, refl, omega arith), omega arith)
+
+unfoldable pub stored : Run ours 32 storedState
+stored = play held (store 26 0 5 ∷ store 26 1 7 ∷ []) (five-allowed, (seven-allowed, tt))
+
+-- words 18 and 19 are those of 26 and 27
+abbrev movedState : State
+movedState =
+    record {
+      words =
+          32 ∷ 2 ∷ 14 ∷ 24 ∷ 0 ∷ 0 ∷ 0 ∷ 0
+          ∷ 0 ∷ 0 ∷ 0 ∷ 0 ∷ 0 ∷ 0 ∷ 0 ∷ 0
+          ∷ 8 ∷ 4294967295 ∷ 5 ∷ 7 ∷ 0 ∷ 0 ∷ 0 ∷ 0
+          ∷ 4 ∷ 0 ∷ 5 ∷ 7 ∷ 4 ∷ 4294967295 ∷ 0 ∷ 0
+          ∷ [];
+      ledger = entry 18 6 ∷ entry 30 2 ∷ [];
+    }
+
+unfoldable pub moved : Run ours 32 movedState
+unfolding reallocOn arenaGate requestGate sound chunksOf walked walkFrom walk meet lowest joined copied written write header enter strike
+moved = play stored (call (realloc 26 6) ∷ []) (tt, tt)
+
+-- alloc 2 gives 30, alloc 2 gives 26, realloc 26 to 6 gives block 18 with 6 granted
+pub move-answers : answers moved ≡ success [] ∷ success (30 ∷ 2 ∷ []) ∷ success (26 ∷ 2 ∷ []) ∷ success (18 ∷ 6 ∷ []) ∷ []
+unfolding startOn allocBy reallocOn arenaGate requestGate sound chunksOf walked walkFrom walk meet lowest written write header held stored moved
+move-answers = refl
+
+pub move-words : take 2 (drop 18 (movedState .words)) ≡ take 2 (drop 26 (storedState .words))
+move-words = refl
+
+-- free chunks are 2 (size 14) and 24 (size 4)
+pub move-chunks : chunksOf (movedState .words) ≡ freeChunk 14 ∷ liveChunk 8 ∷ freeChunk 4 ∷ liveChunk 4 ∷ []
+unfolding chunksOf walked walkFrom walk meet
+move-chunks = refl
+
+-- what was stored last in block 26 is so in block 18
+pub five-moved : StoredLast ours 32 movedState 18 0 5
+unfolding reallocOn arenaGate requestGate sound chunksOf walked walkFrom walk meet lowest joined copied written write header enter strike
+five-moved = regranted (stored-elsewhere (just held 26 0 5 five-allowed) 1 7 seven-allowed clash) 6 (omega arith)
+
+pub seven-moved : StoredLast ours 32 movedState 18 1 7
+unfolding reallocOn arenaGate requestGate sound chunksOf walked walkFrom walk meet lowest joined copied written write header enter strike
+seven-moved = regranted (just (next held (store 26 0 5) five-allowed) 26 1 7 seven-allowed) 6 (omega arith)
+
+-- ---- then the last word of the block is stored, the block is cut, and at last freed
+
+abbrev filledState : State
+filledState = record { words = set (movedState .words) 23 9; ledger = movedState .ledger }
+
+abbrev nine-allowed : Allowed (store 18 5 9) (movedState .ledger)
+nine-allowed = ((entry 18 6, inl refl, refl, omega arith), omega arith)
+
+unfoldable pub filled : Run ours 32 filledState
+filled = play moved (store 18 5 9 ∷ []) (nine-allowed, tt)
+
+-- the tail is merged with the free chunk above it
+abbrev cutState : State
+cutState =
+    record {
+      words =
+          32 ∷ 2 ∷ 14 ∷ 20 ∷ 0 ∷ 0 ∷ 0 ∷ 0
+          ∷ 0 ∷ 0 ∷ 0 ∷ 0 ∷ 0 ∷ 0 ∷ 0 ∷ 0
+          ∷ 4 ∷ 4294967295 ∷ 5 ∷ 7 ∷ 8 ∷ 0 ∷ 0 ∷ 9
+          ∷ 4 ∷ 0 ∷ 5 ∷ 7 ∷ 4 ∷ 4294967295 ∷ 0 ∷ 0
+          ∷ [];
+      ledger = entry 18 2 ∷ entry 30 2 ∷ [];
+    }
+
+unfoldable pub cut : Run ours 32 cutState
+unfolding reallocOn arenaGate requestGate sound chunksOf walked walkFrom walk meet lowest joined written write header enter strike
+cut = play filled (call (realloc 18 1) ∷ []) (tt, tt)
+
+-- the block is merged with both its neighbours, and the headers that are swallowed stay
+abbrev freedState : State
+freedState =
+    record {
+      words =
+          32 ∷ 2 ∷ 26 ∷ 0 ∷ 0 ∷ 0 ∷ 0 ∷ 0
+          ∷ 0 ∷ 0 ∷ 0 ∷ 0 ∷ 0 ∷ 0 ∷ 0 ∷ 0
+          ∷ 4 ∷ 4294967295 ∷ 5 ∷ 7 ∷ 8 ∷ 0 ∷ 0 ∷ 9
+          ∷ 4 ∷ 0 ∷ 5 ∷ 7 ∷ 4 ∷ 4294967295 ∷ 0 ∷ 0
+          ∷ [];
+      ledger = entry 30 2 ∷ [];
+    }
+
+unfoldable pub freed : Run ours 32 freedState
+unfolding freeOn arenaGate sound chunksOf walked walkFrom walk meet lowest joined written write header strike
+freed = play cut (call (free 18) ∷ []) (tt, tt)
+
+-- the cut block has 2 words, and the free is done
+pub freed-answers : answers freed ≡ answers moved ++ success (18 ∷ 2 ∷ []) ∷ success [] ∷ []
+unfolding startOn allocBy freeOn reallocOn arenaGate requestGate sound chunksOf walked walkFrom walk meet lowest written write header held stored moved filled cut freed
+freed-answers = refl
+
+-- the words below the cut are still what was stored last
+pub five-left : StoredLast ours 32 cutState 18 0 5
+unfolding reallocOn arenaGate requestGate sound chunksOf walked walkFrom walk meet lowest joined written write header enter strike
+five-left = regranted (stored-elsewhere five-moved 5 9 nine-allowed (λ is. omega arith)) 1 (omega arith)
+
+pub seven-left : StoredLast ours 32 cutState 18 1 7
+unfolding reallocOn arenaGate requestGate sound chunksOf walked walkFrom walk meet lowest joined written write header enter strike
+seven-left = regranted (stored-elsewhere seven-moved 5 9 nine-allowed (λ is. omega arith)) 1 (omega arith)
+
+-- the 9 is stored last at place 5 until the block is cut below it
+pub nine-stored : StoredLast ours 32 filledState 18 5 9
+nine-stored = just moved 18 5 9 nine-allowed
+
+pub nine-cut : Cut ours (call (realloc 18 1)) filledState 18 5
+unfolding reallocOn arenaGate requestGate sound chunksOf walked walkFrom walk meet lowest
+nine-cut = (refl, refl, omega arith)
+
+-- and the block ends when it is freed
+pub block-ended : Ended ours (call (free 18)) cutState 18
+unfolding freeOn arenaGate sound chunksOf walked walkFrom walk meet lowest
+block-ended = (refl, inl refl)

@@ -1,0 +1,245 @@
+-- Document 01's four useless versions, and others of their kind, as libraries: each with the demands that it fails.
+use Prim.Native.Nat.{ℕ, _+_, _-_, _≤_}
+use mathlib.Core.Path.{_≡_, refl, _∙_, ap}
+use mathlib.Core.Logic.{_≢_, inl, ⊎-elim}
+use mathlib.Core.Bool.{true}
+use mathlib.Core.List.{List, [], _∷_}
+use native.Mathlib.Nat.{add-zero}
+use native.Mathlib.Omega.{arith}
+use lib.ListN.{length, getD, set, replicate}
+use borrow.Author.Tests.{le-leb}
+use Rattle.layout.specs.Numbers.{lawful, need}
+use Rattle.layout.specs.Chunks.{header, write, written}
+use Rattle.layout.specs.Walk.{meet, walk, walkFrom, walked, sound, chunksOf}
+use Rattle.layout.specs.Reasons.{arenaGate, requestGate}
+use Rattle.arena.specs.Answers.{success}
+use Rattle.arena.specs.Spots.{lowest}
+use Rattle.arena.specs.Rules.{joined, copied}
+use Rattle.arena.specs.Calls.{startOn, allocBy, reallocOn, reportOn}
+use Rattle.ledger.specs.Events.{Call, start, alloc, free, realloc, size, view, report, call, store, Library, ours}
+use Rattle.ledger.specs.Ledger.{enter, strike, told, Done, begins, ends}
+use Rattle.ledger.specs.Runs.{Allowed, Run, begun, next}
+use Rattle.ledger.specs.Holders.{just, still}
+use Rattle.ledger.specs.Demands.{Starts, Lengths, Apart, Inside, Keeps, Lasts, Sums, RoomForAlloc, RoomForRealloc, freeWordsIn, liveBlocksIn, Known}
+
+-- what two constructors that are said to be equal come to
+clash : _≡_ {A = ℕ} 0 1 → ⊥
+clash e = omega arith
+
+-- ---- what the room rule asks of a new arena: its first alloc is done
+
+-- arena `a` is started, and `w` words are asked for
+record Once (library : Library) (a : List ℕ) (w : ℕ) : Type 0 where
+  started : Run library (length a) (record { words = library start a .words; ledger = [] })
+  done : Done (library (alloc w) (library start a .words) .answer)
+  once :
+      Run library (length a)
+      (record { words = library (alloc w) (library start a .words) .words; ledger = told (library (alloc w) (library start a .words) .answer) ∷ [] })
+
+has-once : (library : Library) → RoomForAlloc library alloc → (a : List ℕ) (w : ℕ) → lawful (length a) ≡ true → (1 ≤ w) × (need w ≤ length a - 2) → Once library a w
+unfolding enter
+has-once library room a w l fits =
+    let started : Run library (length a) _ = begun a refl l in
+    let done : Done (library (alloc w) (library start a .words) .answer) = room (length a) _ started w (omega arith) .done .1 (λ short. omega arith) in
+    record { started = started; done = done; once = rw done at (next started (call (alloc w)) tt) }
+
+-- a new arena of 6 words has room for 2
+in-six : (library : Library) → RoomForAlloc library alloc → Once library (replicate 6 0) 2
+in-six library room = has-once library room (replicate 6 0) 2 refl (omega arith)
+
+-- ---- one that refuses everything
+
+-- no call is ever done, for whatever reasons and whatever it writes
+abbrev pub RefusesEverything : Library → Type 0
+RefusesEverything library = (c : Call) (a : List ℕ) → Done (library c a .answer) → ⊥
+
+-- it fails the room rule: a new arena of 6 words has room for 2
+pub refuses-everything : (library : Library) → RefusesEverything library → RoomForAlloc library alloc → ⊥
+refuses-everything library refuses room = refuses (alloc 2) _ (in-six library room .done)
+
+-- already its start fails
+pub refuses-start : (library : Library) → RefusesEverything library → Starts library → ⊥
+refuses-start library refuses starts = refuses start _ (starts (replicate 6 0) refl)
+
+-- ---- one that grants block 4 each time
+
+-- an alloc that is done answers block 4, whatever it grants and writes, and whatever the other calls do
+abbrev pub GrantsBlockFour : Library → Type 0
+GrantsBlockFour library = (w : ℕ) (a : List ℕ) → Done (library (alloc w) a .answer) → told (library (alloc w) a .answer) .block ≡ 4
+
+-- if it keeps the room rule and grants just the need, its blocks overlap: of 16 words, the first block leaves room for a second
+pub grants-block-four : (library : Library) → GrantsBlockFour library → RoomForAlloc library alloc → Known library → Apart library → ⊥
+unfolding enter
+grants-block-four library four room known apart =
+    let o = has-once library room (replicate 16 0) 2 refl (omega arith) in
+    let first = library (alloc 2) (library start (replicate 16 0) .words) in
+    let second = library (alloc 2) (first .words) in
+    let is : told (first .answer) .block ≡ 4 = four 2 _ (o .done) in
+    let small = known 16 _ (o .started) .alloc-grants 2 (o .done) in
+    let done : Done (second .answer) = room 16 _ (o .once) 2 (omega arith) .done .1 (λ short. omega (arith, is, small)) in
+    let same : told (second .answer) .block ≡ 4 = four 2 _ done in
+    let twice = rw done at (next (o .once) (call (alloc 2)) tt) in
+    omega (arith, is, same, apart 16 _ twice [] [] [] (told (second .answer)) (told (first .answer)) (rw (le-leb (told (second .answer) .block) (told (first .answer) .block) (omega arith))))
+
+-- ---- one that writes nothing
+
+-- every call leaves the words as they were, whatever it answers
+abbrev pub WritesNothing : Library → Type 0
+WritesNothing library = (c : Call) (a : List ℕ) → library c a .words ≡ a
+
+-- if it keeps the room rule and its blocks lie inside, they overlap: a second alloc answers what the first did
+pub writes-nothing : (library : Library) → WritesNothing library → RoomForAlloc library alloc → Inside library → Apart library → ⊥
+unfolding enter
+writes-nothing library nothing room inside apart =
+    let o = in-six library room in
+    let a = library start (replicate 6 0) .words in
+    let e = told (library (alloc 2) a .answer) in
+    let z : (2 ≤ begins e) × (ends e ≤ 6) = inside 6 _ (o .once) e (inl refl) in
+    omega (arith, z, apart 6 _ (next (o .once) (call (alloc 2)) tt) [] [] [] e e (rw (nothing (alloc 2) a, o .done, le-leb (e .block) (e .block) (omega arith))))
+
+-- it answers as ours does
+abbrev pub answersAlone : Library
+answersAlone c a = record { answer = ours c a .answer; words = a }
+
+-- it does not know its arena: right after the start, the report is refused for damage
+pub answers-alone : Known answersAlone → ⊥
+unfolding reportOn arenaGate sound walked walkFrom walk meet
+answers-alone known = known 6 _ (begun (replicate 6 0) refl refl) .never-damaged report refl
+
+-- ---- one that keeps a made-up total of free words
+
+-- the total that it reports may depend on the arena's length, and on nothing else
+abbrev pub MadeUpTotal : (ℕ → ℕ) → Library → Type 0
+MadeUpTotal total library = (a : List ℕ) → freeWordsIn (library report a .answer) ≡ total (length a)
+
+-- if it keeps the room rule and its arena's length, its sum is wrong, before an alloc or after it
+pub made-up-total : (total : ℕ → ℕ) (library : Library) → MadeUpTotal total library → Lengths library → RoomForAlloc library alloc → Sums library → ⊥
+made-up-total total library made lengths room sums =
+    let o = in-six library room in
+    let before : total 6 ≡ 4 = rw (← lengths 6 _ (o .started), ← made) (omega (arith, sums 6 _ (o .started))) in
+    let after : total 6 + (told (library (alloc 2) (library start (replicate 6 0) .words) .answer) .granted + 2) ≡ 4 = rw (← lengths 6 _ (o .once), ← made) (omega (arith, sums 6 _ (o .once))) in
+    omega arith
+
+-- ---- one that reports no live blocks
+
+-- the report tells 0 live blocks, whatever else it tells
+abbrev pub ReportsNone : Library → Type 0
+ReportsNone library = (a : List ℕ) → liveBlocksIn (library report a .answer) ≡ 0
+
+-- if it keeps the room rule, it does not know its arena: a block is held
+pub reports-none : (library : Library) → ReportsNone library → RoomForAlloc library alloc → Known library → ⊥
+reports-none library none room known =
+    let o = in-six library room in
+    omega (arith, none (library (alloc 2) (library start (replicate 6 0) .words) .words), known 6 _ (o .once) .live-blocks)
+
+-- ---- one that grants the control words, or words beyond the end
+
+-- an alloc that is done answers block 2, of which the control words are the header
+abbrev pub GrantsControlWords : Library → Type 0
+GrantsControlWords library = (w : ℕ) (a : List ℕ) → Done (library (alloc w) a .answer) → told (library (alloc w) a .answer) .block ≡ 2
+
+-- if it keeps the room rule, its block is not inside
+pub grants-control-words : (library : Library) → GrantsControlWords library → RoomForAlloc library alloc → Inside library → ⊥
+grants-control-words library two room inside =
+    let o = in-six library room in
+    omega (arith, two 2 _ (o .done), inside 6 _ (o .once) _ (inl refl) .0)
+
+-- an alloc that is done answers a block that begins where the arena ends
+abbrev pub GrantsBeyond : Library → Type 0
+GrantsBeyond library = (w : ℕ) (a : List ℕ) → Done (library (alloc w) a .answer) → told (library (alloc w) a .answer) .block ≡ length a
+
+-- if it keeps the room rule and its arena's length, and grants enough, its block is not inside
+pub grants-beyond : (library : Library) → GrantsBeyond library → Lengths library → RoomForAlloc library alloc → Known library → Inside library → ⊥
+grants-beyond library beyond lengths room known inside =
+    let o = in-six library room in
+    omega (arith, beyond 2 _ (o .done), lengths 6 _ (o .started), known 6 _ (o .started) .alloc-grants 2 (o .done), inside 6 _ (o .once) _ (inl refl) .1)
+
+-- ---- one that grants 2 words whatever is asked
+
+-- an alloc that is done answers 2 granted words, whatever it writes, and whatever the other calls do
+abbrev pub GrantsTwoWords : Library → Type 0
+GrantsTwoWords library = (w : ℕ) (a : List ℕ) → Done (library (alloc w) a .answer) → told (library (alloc w) a .answer) .granted ≡ 2
+
+-- if it keeps the room rule, it does not grant enough: a new arena of 8 words has room for 4
+pub grants-two-words : (library : Library) → GrantsTwoWords library → RoomForAlloc library alloc → Known library → ⊥
+grants-two-words library two room known =
+    let o = has-once library room (replicate 8 0) 4 refl (omega arith) in
+    omega (arith, two 4 _ (o .done), known 8 _ (o .started) .alloc-grants 4 (o .done))
+
+-- ---- one that never frees
+
+-- free is never done, for whatever reasons and whatever it writes
+abbrev pub NeverFrees : Library → Type 0
+NeverFrees library = (b : ℕ) (a : List ℕ) → Done (library (free b) a .answer) → ⊥
+
+-- if it keeps the room rule, it does not know its arena: a block that is held can be freed
+pub never-frees : (library : Library) → NeverFrees library → RoomForAlloc library alloc → Known library → ⊥
+never-frees library refuses room known = refuses _ _ (known 6 _ (in-six library room .once) .free-listed _ (inl refl))
+
+-- ---- one that never regrants
+
+-- realloc is never done, for whatever reasons and whatever it writes
+abbrev pub NeverRegrants : Library → Type 0
+NeverRegrants library = (b w : ℕ) (a : List ℕ) → Done (library (realloc b w) a .answer) → ⊥
+
+-- if it keeps the room rule of alloc and grants enough, it fails that of realloc: a block has room for the words that it has
+pub never-regrants : (library : Library) → NeverRegrants library → RoomForAlloc library alloc → Known library → RoomForRealloc library realloc → ⊥
+never-regrants library refuses room known regrants =
+    let o = in-six library room in
+    let e = told (library (alloc 2) (library start (replicate 6 0) .words) .answer) in
+    let enough = known 6 _ (o .started) .alloc-grants 2 (o .done) in
+    refuses (e .block) 2 _ (regrants 6 _ (o .once) [] [] e refl 2 (omega arith) .done .1 (λ short. omega (arith, short .1, enough)))
+
+-- ---- one that hands back words of any number
+
+-- view never answers the empty part
+abbrev pub ViewsEverything : Library → Type 0
+ViewsEverything library = (b : ℕ) (a : List ℕ) → library (view b) a .answer ≢ success []
+
+-- it does not know its arena: a new arena has no block 4
+pub views-everything : (library : Library) → ViewsEverything library → Known library → ⊥
+views-everything library hands known = hands 4 _ (known 6 _ (begun (replicate 6 0) refl refl) .view-unlisted 4 (λ e listed. absurd listed))
+
+-- ---- one that moves a block without its words
+
+-- each call answers as ours does and writes the same headers, but copies nothing
+abbrev pub copiesNothing : Library
+copiesNothing c a = record { answer = ours c a .answer; words = written (chunksOf (ours c a .words)) a }
+
+-- a block does not keep its words: of 16 words, block 10 holds a 5 and is moved to block 4
+pub copies-nothing : Keeps copiesNothing → ⊥
+unfolding startOn allocBy reallocOn arenaGate requestGate sound chunksOf walked walkFrom walk meet lowest joined copied written write header enter strike
+copies-nothing keeps =
+    let held : Run copiesNothing 16 _ = next (next (begun (replicate 16 0) refl refl) (call (alloc 2)) tt) (call (alloc 2)) tt in
+    let stored : Run copiesNothing 16 _ = next held (store 10 0 5) ((record { block = 10; granted = 2 }, inl refl, refl, omega arith), omega arith) in
+    ⊎-elim
+    (λ ended. ⊎-elim (λ is. clash cc) (λ is. clash cc) (ended .1))
+    (λ goes.
+    let moved : goes .later .block ≡ 4 = goes .number-is in
+    let long : 1 ≤ goes .later .granted = ⊎-elim (λ is. rw (← is) (omega arith)) (⊎-elim (λ is. rw (← is) (omega arith)) (λ none. absurd none)) (goes .listed) in
+    let lost : _≡_ {A = ℕ} 0 5 = rw moved at (goes .words-kept 0 (omega arith)) in
+    omega arith)
+    (keeps 16 _ stored (call (realloc 10 4)) tt (record { block = 10; granted = 2 }) (inl refl))
+
+-- ---- one that forgets what holders stored
+
+-- a size that is done leaves 0 in the first word of its block, whatever else it writes, and whatever the other calls do
+abbrev pub Forgets : Library → Type 0
+Forgets library = (b : ℕ) (a : List ℕ) → Done (library (size b) a .answer) → getD (library (size b) a .words) b 0 ≡ 0
+
+-- if it keeps the room rule and knows its arena, what was stored last does not last: a 5 is stored, then size is asked
+pub forgets : (library : Library) → Forgets library → RoomForAlloc library alloc → Known library → Lasts library → ⊥
+forgets library zeroes room known lasts =
+    let o = in-six library room in
+    let a = library start (replicate 6 0) .words in
+    let e = told (library (alloc 2) a .answer) in
+    let enough = known 6 _ (o .started) .alloc-grants 2 (o .done) in
+    let held : Allowed (store (e .block) 0 5) (e ∷ []) = ((e, inl refl, refl, omega arith), omega arith) in
+    let stored = next (o .once) (store (e .block) 0 5) held in
+    let w = set (library (alloc 2) a .words) (e .block + 0) 5 in
+    let done : Done (library (size (e .block)) w .answer) = rw (known 6 _ stored .size-listed e (inl refl)) in
+    let last = still (just (o .once) (e .block) 0 5 held) (call (size (e .block))) tt
+    (λ ended. ⊎-elim (λ is. clash cc) (λ is. clash cc) (ended .1)) (λ cut. let is = cut .1 in clash cc) (λ v is. clash cc) in
+    let zero : getD (library (size (e .block)) w .words) (e .block + 0) 0 ≡ 0 = ap (λ k. getD (library (size (e .block)) w .words) k 0) (add-zero (e .block)) ∙ zeroes (e .block) w done in
+    let five : getD (library (size (e .block)) w .words) (e .block + 0) 0 ≡ 5 = rw done at (lasts 6 _ _ 0 5 last) in
+    omega arith
