@@ -115,5 +115,6 @@ module _ (library : Library) where
     pub report-done : Done (library report a .answer)
     pub live-blocks : liveBlocksIn (library report a .answer) ≡ length ledger
 
+  -- the answers tell it in every run
   abbrev pub Known : Type 0
   Known = (n : ℕ) (s : State) → Run library n s → Tells (s .words) (s .ledger)
