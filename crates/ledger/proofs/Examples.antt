@@ -113,7 +113,7 @@ fifth-gaps = ap (gaps 32) fifth-ledger
 -- ---- what was stored last, over the events of the runs below
 
 -- what two constructors that are said to be equal come to
-clash : _≡_ {A = ℕ} 0 1 → ⊥
+pub clash : _≡_ {A = ℕ} 0 1 → ⊥
 clash e = omega arith
 
 -- it stays so where another place of the block is stored to

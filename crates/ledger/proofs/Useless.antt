@@ -21,10 +21,7 @@ use Rattle.ledger.specs.Ledger.{enter, strike, told, Done, begins, ends}
 use Rattle.ledger.specs.Runs.{Allowed, Run, begun, next}
 use Rattle.ledger.specs.Holders.{just, still}
 use Rattle.ledger.specs.Demands.{Starts, Lengths, Apart, Inside, Keeps, Lasts, Sums, RoomForAlloc, RoomForRealloc, freeWordsIn, liveBlocksIn, Known}
-
--- what two constructors that are said to be equal come to
-clash : _≡_ {A = ℕ} 0 1 → ⊥
-clash e = omega arith
+use Rattle.ledger.proofs.Examples.{clash}
 
 -- ---- what the room rule asks of a new arena: its first alloc is done
 
