@@ -37,6 +37,9 @@ SomeBlock a b = (pre : List Chunk) × (s : ℕ) × (post : List Chunk) × BlockA
 abbrev pub FreeShorter : ℕ → List Chunk → Type 0
 FreeShorter need ks = (pre : List Chunk) (s : ℕ) (post : List Chunk) → ks ≡ pre ++ free s ∷ post → s < need
 
+pub free-shorter-tail : (need : ℕ) (k : Chunk) (ks : List Chunk) → FreeShorter need (k ∷ ks) → FreeShorter need ks
+free-shorter-tail need k ks f pre s post e = f (k ∷ pre) s post (ap (_∷_ k) e)
+
 -- no free chunk has as many as `need` words
 abbrev pub NoGap : List ℕ → ℕ → Type 0
 NoGap a need = FreeShorter need (chunksOf a)

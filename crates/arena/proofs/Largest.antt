@@ -18,7 +18,7 @@ use Rattle.arena.specs.Answers.{Outcome}
 use Rattle.arena.specs.Rules.{widest}
 use Rattle.arena.specs.Calls.{allocOn, reportOn}
 use Rattle.arena.proofs.Gates.{sound-lawful}
-use Rattle.arena.proofs.Blocks.{FreeShorter}
+use Rattle.arena.proofs.Blocks.{FreeShorter, free-shorter-tail}
 use Rattle.arena.proofs.Causes.{AllocRefused}
 use Rattle.arena.proofs.Cases.{Case, refuses, does, Allots, allots, alloc-case}
 use Rattle.arena.proofs.Gates.{sound-gate}
@@ -45,8 +45,8 @@ widest-least (live t ∷ pre) s post = widest-least pre s post
 widest-below : (ks : List Chunk) (words : ℕ) → 1 ≤ words → FreeShorter words ks → widest ks < words
 widest-below [] words one f = one
 widest-below (free s ∷ ks) words one f =
-    omega (arith, f [] s ks refl, widest-below ks words one (λ pre t post e. f (free s ∷ pre) t post (ap (_∷_ (free s)) e)))
-widest-below (live s ∷ ks) words one f = widest-below ks words one (λ pre t post e. f (live s ∷ pre) t post (ap (_∷_ (live s)) e))
+    omega (arith, f [] s ks refl, widest-below ks words one (free-shorter-tail words (free s) ks f))
+widest-below (live s ∷ ks) words one f = widest-below ks words one (free-shorter-tail words (live s) ks f)
 
 -- ---- the report
 

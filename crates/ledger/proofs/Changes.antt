@@ -1,4 +1,4 @@
--- A list of chunks in which some are replaced, and what the ledger of its blocks becomes: a grant, a free, a block that stays and a block that moves.
+-- A list of chunks in which a middle is replaced, and what the ledger of its blocks becomes: a block enters, leaves, or is replaced.
 use mathlib.Core.Path.{_≡_, refl, ap}
 use mathlib.Core.Bool.{Bool, true, false, cond}
 use mathlib.Core.List.{List, [], _∷_, _++_}

@@ -1,4 +1,4 @@
--- Runs that are there, computed: that of document 01's table, and its move, with what was stored last in its blocks.
+-- Runs that are there, computed: that of document 01's table, and its move, which goes on to a cut and a free, with what was stored last in the block.
 use Prim.Native.Nat.{ℕ, _<_}
 use mathlib.Core.Path.{_≡_, refl, ap}
 use mathlib.Core.Logic.{_≢_, inl, ⊎-elim}
@@ -89,7 +89,7 @@ fresh = record { words = ours start (replicate 32 0) .words; ledger = [] }
 abbrev freshRun : Run ours 32 fresh
 freshRun = begun (replicate 32 0) refl refl
 
-abbrev pub table : Run ours 32 (afterAll (map call rowCalls) fresh)
+abbrev table : Run ours 32 (afterAll (map call rowCalls) fresh)
 table = play freshRun (map call rowCalls) (calls-allowed rowCalls fresh)
 
 -- 010020: 0100, and then what the rows say
@@ -102,7 +102,7 @@ pub table-ledger : afterAll (map call rowCalls) fresh .ledger ≡ entry 4 4 ∷ 
 unfolding startOn allocBy freeOn reallocOn reportOn arenaGate requestGate sound chunksOf walked walkFrom walk meet lowest joined copied written write header enter strike
 table-ledger = refl
 
--- what the first five rows leave: blocks 10 and 26, and the gaps below, between and above them
+-- what the first five rows after the start leave: blocks 10 and 26, and the gaps below, between and above them
 pub fifth-ledger : afterAll (map call (take 5 rowCalls)) fresh .ledger ≡ entry 10 10 ∷ entry 26 6 ∷ []
 unfolding startOn allocBy freeOn reallocOn reportOn arenaGate requestGate sound chunksOf walked walkFrom walk meet lowest joined copied written write header enter strike
 fifth-ledger = refl

@@ -9,7 +9,7 @@ use Rattle.layout.specs.Numbers.{headerWords}
 use Rattle.layout.specs.Chunks.{Chunk, free, live, total}
 use Rattle.layout.proofs.Holds.{Sizes, Spaced}
 use Rattle.arena.specs.Inside.Rooms.{roomWords}
-use Rattle.arena.proofs.Blocks.{FreeShorter}
+use Rattle.arena.proofs.Blocks.{FreeShorter, free-shorter-tail}
 use Rattle.ledger.specs.Gaps.{gapFrom, gapsFrom, EachShorter}
 use Rattle.ledger.proofs.Blocks.{blocksFrom}
 
@@ -28,9 +28,6 @@ gaps-blocks n c d p (live s ∷ ks) e f z =
     rw own (ap (_∷_ p) (gaps-blocks n (d + headerWords + (s - headerWords)) (d + s) 0 ks (omega (arith, z .1)) (omega arith) (z .2)))
 
 -- ---- a need and the gaps
-
-free-shorter-tail : (need : ℕ) (k : Chunk) (ks : List Chunk) → FreeShorter need (k ∷ ks) → FreeShorter need ks
-free-shorter-tail need k ks f pre s post e = f (k ∷ pre) s post (ap (_∷_ k) e)
 
 -- the first gap has at least the words that stand before
 before-shorter : (need p : ℕ) (ks : List Chunk) → EachShorter need (gapsIn p ks) → p < need
@@ -57,7 +54,7 @@ gaps-shorter need ks h one = (
   free-gaps need 0 false ks h (λ e. refl) one,
 )
 
--- ---- the gap right above a block of `s` words, which ends at word `c`, where `post` begin
+-- ---- the gap right above a block of `s` words, header counted, which ends at word `c`, where `post` begin
 
 pub gap-above : (n c s : ℕ) (post : List Chunk) → n ≡ c + total post → Spaced false post → s + gapFrom n c (blocksFrom c post) ≡ roomWords s post
 gap-above n c s [] e h = omega arith

@@ -15,7 +15,7 @@ use Rattle.ledger.proofs.Stores.{store-there}
 use Rattle.ledger.proofs.Onward.{still-held}
 use Rattle.ledger.proofs.Runs.{event-keeps, run-agrees}
 
--- the run in which it was stored
+-- the run up to that state
 stored-run : {library : Library} {n : ℕ} {s : State} {b i v : ℕ} → StoredLast library n s b i v → Run library n s
 stored-run (just run b i v allowed) = next run (store b i v) allowed
 stored-run (still t event allowed unended uncut other) = next (stored-run t) event allowed

@@ -50,7 +50,7 @@ module _ (library : Library) (event : Event) (s : State) where
         go true q = done-onward (eqb-true (answer .code) 0 q) (effect event) refl
         go false q = stays l refl
 
-  -- a place of a block that neither ends nor is cut below it is held
+  -- a place is still held if its block does not end and it is not cut off
   pub still-held : (b i : ℕ) → Held (s .ledger) b i → (Ended library event s b → ⊥) → (Cut library event s b i → ⊥) → Held (after library event s .ledger) (numberAfter library event s b) i
   still-held b i (e, l, q, h) unended uncut = rw (← q) (go (onward e l))
     where

@@ -1,4 +1,4 @@
--- When alloc and realloc are refused for want of room, told by the ledger: the gaps that its blocks leave are the arena's free chunks.
+-- When alloc and realloc are refused for want of room, told by the ledger: the gaps that its blocks leave are the arena's free chunks, and gaps of 0 words.
 use mathlib.Core.Path.{_≡_, refl, sym, ap, _∙_}
 use mathlib.Core.Logic.{_↔_, Iff·symm, Iff·trans}
 use mathlib.Core.Bool.{true, false}

@@ -20,7 +20,7 @@ use Rattle.ledger.proofs.Onward.{Onward, ends, stays, changes, onward}
 use Rattle.ledger.proofs.Stores.{store-agrees, store-keeps}
 
 -- a state whose ledger agrees with its words
-abbrev pub AgreesAt : ℕ → State → Type 0
+abbrev AgreesAt : ℕ → State → Type 0
 AgreesAt n s = Agrees n (s .words) (s .ledger)
 
 -- ---- one event

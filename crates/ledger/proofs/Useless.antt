@@ -8,7 +8,7 @@ use native.Mathlib.Nat.{add-zero}
 use native.Mathlib.Omega.{arith}
 use lib.ListN.{length, getD, set, replicate}
 use borrow.Author.Tests.{le-leb}
-use Rattle.layout.specs.Numbers.{lawful, need}
+use Rattle.layout.specs.Numbers.{controlWords, lawful, need}
 use Rattle.layout.specs.Chunks.{header, write, written}
 use Rattle.layout.specs.Walk.{meet, walk, walkFrom, walked, sound, chunksOf}
 use Rattle.layout.specs.Reasons.{arenaGate, requestGate}
@@ -33,7 +33,7 @@ record Once (library : Library) (a : List ℕ) (w : ℕ) : Type 0 where
       Run library (length a)
       (record { words = library (alloc w) (library start a .words) .words; ledger = told (library (alloc w) (library start a .words) .answer) ∷ [] })
 
-has-once : (library : Library) → RoomForAlloc library alloc → (a : List ℕ) (w : ℕ) → lawful (length a) ≡ true → (1 ≤ w) × (need w ≤ length a - 2) → Once library a w
+has-once : (library : Library) → RoomForAlloc library alloc → (a : List ℕ) (w : ℕ) → lawful (length a) ≡ true → (1 ≤ w) × (need w ≤ length a - controlWords) → Once library a w
 unfolding enter
 has-once library room a w l fits =
     let started : Run library (length a) _ = begun a refl l in
@@ -129,7 +129,7 @@ reports-none library none room known =
     let o = in-six library room in
     omega (arith, none (library (alloc 2) (library start (replicate 6 0) .words) .words), known 6 _ (o .once) .live-blocks)
 
--- ---- one that grants the control words, or words beyond the end
+-- ---- one that grants block 2, whose header is the control words, or a block that begins where the arena ends
 
 -- an alloc that is done answers block 2, of which the control words are the header
 abbrev pub GrantsControlWords : Library → Type 0
@@ -218,7 +218,7 @@ copies-nothing keeps =
     omega arith)
     (keeps 16 _ stored (call (realloc 10 4)) tt (record { block = 10; granted = 2 }) (inl refl))
 
--- ---- one that forgets what holders stored
+-- ---- one that clears a block when its size is asked
 
 -- a size that is done leaves 0 in the first word of its block, whatever else it writes, and whatever the other calls do
 abbrev pub Forgets : Library → Type 0

@@ -20,7 +20,7 @@ use Rattle.ledger.specs.Holders.{wordAfter, numberAfter, Ended, StoredLa
 abbrev pub LawfulRequest : ℕ → ℕ → Type 0
 LawfulRequest n w = (1 ≤ w) × (w ≤ greatestRequest n)
 
--- `s` words are the need of a request, with fewer words over than are split off
+-- `s` words, header counted, have the need of a request for `w`, and fewer over than would be split off
 abbrev pub HasNeed : ℕ → ℕ → Type 0
 HasNeed w s = (need w ≤ s) × (s < need w + leastSplit)
 
@@ -29,7 +29,7 @@ pub record RefusedWhen (why : Reason) (Short : Type 0) (answer : Answer) : Type 
   pub refused : (answer .code ≡ number why) ↔ Short
   pub done : Done answer ↔ (Short → ⊥)
 
--- the free words, and the live blocks, that a report answers
+-- the free words, and the live blocks, that a report answers (0 where it has no such field)
 abbrev pub freeWordsIn : Answer → ℕ
 freeWordsIn answer = getD (answer .values) 0 0
 
@@ -55,7 +55,7 @@ module _ (library : Library) where
   abbrev pub Inside : Type 0
   Inside = (n : ℕ) (s : State) → Run library n s → (e : Entry) → Listed (s .ledger) e → (controlWords ≤ begins e) × (ends e ≤ n)
 
-  -- the block of entry `e` goes on after an event: under the number that it has then, and with its words, as many as old and new length share
+  -- the block of entry `e` goes on after an event: under the number that it has then, and with its words, as many as old and new length share; of these a store changes the one that it stores to
   pub record GoesOn (s : State) (event : Event) (e : Entry) : Type 0 where
     pub later : Entry
     pub listed : Listed (after library event s .ledger) later
@@ -94,7 +94,7 @@ module _ (library : Library) where
   abbrev pub NeedsBlock : (ℕ → Call) → List ℕ → Ledger → Type 0
   NeedsBlock calls a ledger = (b : ℕ) → (library (calls b) a .answer .code ≡ number NotABlock) ↔ Unlisted ledger b
 
-  -- a call that is done grants the need of its request, header counted
+  -- a call that is done grants the need of its request, with fewer words over than would be split off
   abbrev pub GrantsNeed : (ℕ → Call) → List ℕ → Type 0
   GrantsNeed calls a =
       (w : ℕ) → Done (library (calls w) a .answer) → HasNeed w (headerWords + told (library (calls w) a .answer) .granted)

@@ -1,10 +1,10 @@
--- The gaps that ledger blocks and their headers leave in an arena of `n` words, computed from the ledger and `n` alone. Where two blocks meet, the gap has 0 words.
+-- The gaps that ledger blocks and their headers leave in an arena of `n` words, computed from the ledger and `n` alone. Where two blocks meet, or the last ends at `n`, the gap has 0 words.
 use Prim.Native.Nat.{ℕ, _-_, _<_}
 use mathlib.Core.List.{List, [], _∷_}
 use Rattle.layout.specs.Numbers.{controlWords}
 use Rattle.ledger.specs.Ledger.{Ledger, begins, ends}
 
--- the gap from word `c` up to the first of the blocks above it, or to the end of the arena
+-- the gap from word `c` up to the header of the first of the blocks above it, or to the end of the arena
 abbrev pub gapFrom : ℕ → ℕ → Ledger → ℕ
 gapFrom n c [] = n - c
 gapFrom n c (e ∷ es) = begins e - c
@@ -17,7 +17,7 @@ gapsFrom n c (e ∷ es) = gapFrom n c (e ∷ es) ∷ gapsFrom n (ends e) es
 abbrev pub gaps : ℕ → Ledger → List ℕ
 gaps n ledger = gapsFrom n controlWords ledger
 
--- every one of them is shorter than `need`
+-- every one of them has fewer than so many words
 abbrev pub EachShorter : ℕ → List ℕ → Type 0
-EachShorter need [] = Unit {0}
-EachShorter need (g ∷ gs) = (g < need) × EachShorter need gs
+EachShorter words [] = Unit {0}
+EachShorter words (g ∷ gs) = (g < words) × EachShorter words gs

@@ -31,11 +31,11 @@ module _ (library : Library) where
   abbrev pub Ended : Event → State → ℕ → Type 0
   Ended event s b = Done (answerTo library event s) × ((effect event ≡ frees b) ⊎ (effect event ≡ empties))
 
-  -- an event cuts block `b` below place `i`
+  -- an event cuts place `i` off block `b`: it is granted anew, with at most `i` words
   abbrev pub Cut : Event → State → ℕ → ℕ → Type 0
   Cut event s b i = Done (answerTo library event s) × (effect event ≡ regrants b) × (told (answerTo library event s) .granted ≤ i)
 
-  -- in a run up to a state, `v` is what was stored last at place `i` of the block that is now number `b`: it was stored just now, or it was so before an event that neither ends the block, nor cuts it below the place, nor stores to the place
+  -- in a run up to a state, `v` is what was stored last at place `i` of the block that is now number `b`: it was stored just now, or it was so before an event that neither ends the block, nor cuts the place off, nor stores to the place
   pub data StoredLast (n : ℕ) : State → ℕ → ℕ → ℕ → Type 0 where
     just : {s : State} → Run library n s → (b i v : ℕ) → Allowed (store b i v) (s .ledger) → StoredLast n (after library (store b i v) s) b i v
     still : {s : State} {b i v : ℕ} → StoredLast n s b i v → (event : Event) → Allowed event (s .ledger)

@@ -26,7 +26,7 @@ unfoldable pub enter : Entry → Ledger → Ledger
 enter e [] = e ∷ []
 enter e (f ∷ fs) = cond (leb (e .block) (f .block)) (e ∷ f ∷ fs) (f ∷ enter e fs)
 
--- the entry of block `b` is struck out
+-- every entry of number `b` is struck out
 unfoldable pub strike : ℕ → Ledger → Ledger
 strike b [] = []
 strike b (f ∷ fs) = cond (eqb (f .block) b) (strike b fs) (f ∷ strike b fs)
@@ -49,7 +49,7 @@ effect (call (view b)) = spares
 effect (call report) = spares
 effect (store b i v) = spares
 
--- the block and the granted words that an answer tells
+-- the block and the granted words that an answer tells (0 where it has no such field)
 abbrev pub told : Answer → Entry
 told answer = record { block = getD (answer .values) 0 0; granted = getD (answer .values) 1 0 }
 
@@ -88,7 +88,7 @@ Unlisted ledger b = (e : Entry) → Listed ledger e → e .block ≢ b
 abbrev pub Held : Ledger → ℕ → ℕ → Type 0
 Held ledger b i = (e : Entry) × Listed ledger e × (e .block ≡ b) × (i < e .granted)
 
--- where a block's header begins, and where its granted words end
+-- the word where a block's header begins (0 for a number below 2, which no block of ours has), and the first word after its granted words
 abbrev pub begins : Entry → ℕ
 begins e = e .block - headerWords
 

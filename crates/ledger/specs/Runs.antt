@@ -13,7 +13,7 @@ pub record State : Type 0 where
   pub words : List ℕ
   pub ledger : Ledger
 
--- every call is allowed, also one that will be refused; a holder stores only into a block that the ledger has, below its granted words, a value that fits a word
+-- every call is allowed, also one that will be refused; a holder stores only to one of the granted words of a block that the ledger has, and only a value that fits a word
 abbrev pub Allowed : Event → Ledger → Type 0
 Allowed (call c) ledger = Unit {0}
 Allowed (store b i v) ledger = Held ledger b i × (v < wordValues)
