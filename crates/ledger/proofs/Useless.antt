@@ -8,7 +8,7 @@ use native.Mathlib.Nat.{add-zero}
 use native.Mathlib.Omega.{arith}
 use lib.ListN.{length, getD, set, replicate}
 use borrow.Author.Tests.{le-leb}
-use Rattle.layout.specs.Numbers.{controlWords, lawful, need}
+use Rattle.layout.specs.Numbers.{controlWords, lawful, greatestRequest, need}
 use Rattle.layout.specs.Chunks.{header, write, written}
 use Rattle.layout.specs.Walk.{meet, walk, walkFrom, walked, sound, chunksOf}
 use Rattle.layout.specs.Reasons.{arenaGate, requestGate}
@@ -162,6 +162,18 @@ pub grants-two-words : (library : Library) → GrantsTwoWords library → RoomFo
 grants-two-words library two room known =
     let o = has-once library room (replicate 8 0) 4 refl (omega arith) in
     omega (arith, two 4 _ (o .done), known 8 _ (o .started) .alloc-grants 4 (o .done))
+
+-- ---- one that grants the whole arena
+
+-- an alloc that is done answers all words but the control words and a header, whatever is asked
+abbrev pub GrantsEverything : Library → Type 0
+GrantsEverything library = (w : ℕ) (a : List ℕ) → Done (library (alloc w) a .answer) → told (library (alloc w) a .answer) .granted ≡ greatestRequest (length a)
+
+-- if it keeps the room rule and its arena's length, it grants too much: of 16 words, a request for 2 has 12
+pub grants-everything : (library : Library) → GrantsEverything library → Lengths library → RoomForAlloc library alloc → Known library → ⊥
+grants-everything library all lengths room known =
+    let o = has-once library room (replicate 16 0) 2 refl (omega arith) in
+    omega (arith, all 2 _ (o .done), lengths 16 _ (o .started), known 16 _ (o .started) .alloc-grants 2 (o .done))
 
 -- ---- one that never frees
 
