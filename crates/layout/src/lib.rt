@@ -7,6 +7,7 @@ ghost use Rattle.layout.specs.Numbers.{lawful, greatestLength, headerWor
 ghost use Rattle.layout.specs.Numbers.{need as needOf};
 ghost use Rattle.layout.specs.Walk.{walkFrom, isWhole, sound};
 ghost use Rattle.layout.specs.Reasons.{arenaGate, requestGate};
+ghost use Rattle.layout.specs.Reasons.{number as numberOf};
 ghost use Rattle.layout.specs.Links.{sizeAt};
 
 // The words before the first chunk.
@@ -43,6 +44,21 @@ pub enum Reason {
 pub enum Gate {
     Open,
     Shut(Reason),
+}
+
+// A reason's number.
+pub fn number(why: Reason) -> u32
+    ensures { λ r. ⌜ r ≡ numberOf why ⌝ }
+{
+    match why {
+        Reason::Length => 1,
+        Reason::Damaged => 2,
+        Reason::NotABlock => 3,
+        Reason::Zero => 4,
+        Reason::TooLarge => 5,
+        Reason::NoRoom => 6,
+        Reason::Frame => 7,
+    }
 }
 
 // A word as an index.

@@ -1,0 +1,114 @@
+-- The numbers of an answer fit their digits: the code has two of them, each field four.
+use Prim.Native.Nat.{ℕ, zero, suc, _+_, _-_, _≤_, _<_}
+use mathlib.Core.Path.{_≡_, refl, ap}
+use mathlib.Core.Bool.{true}
+use mathlib.Core.List.{List, [], _∷_, _++_}
+use native.Mathlib.Omega.{arith}
+use lib.ListN.{length, replicate, length-replicate}
+use Rattle.layout.specs.Numbers.{firstChunk, headerWords, greatestLength, need}
+use Rattle.layout.specs.Chunks.{Chunk, free, live, total}
+use Rattle.layout.specs.Walk.{sound, chunksOf}
+use Rattle.layout.specs.Reasons.{number}
+use Rattle.layout.specs.declared.Reason.{Reason}
+use Rattle.layout.specs.declared.Reason.the-variants.{Length, Damaged, NotABlock, Zero, TooLarge, NoRoom, Frame}
+use Rattle.layout.proofs.Holds.{total-append}
+use Rattle.layout.proofs.Round.{sound-chunks}
+use Rattle.arena.specs.Answers.{Outcome}
+use Rattle.arena.specs.Rules.{taken}
+use Rattle.arena.specs.Calls.{startOn, allocOn, freeOn, reallocOn, reportOn}
+use Rattle.arena.specs.Inside.Tallies as tallies
+use Rattle.arena.proofs.Moving.{cut-numbers}
+use Rattle.arena.proofs.Tallying.{counted, tallied-counts, tallied-small}
+use Rattle.arena.proofs.Cases.{Case, refuses, does, Starts, starts, start-case, Allots, allots, alloc-case, Frees, frees, free-case, Reports, reports, report-case}
+use Rattle.arena.proofs.Regranting.{Regrants, shrinks, grows, moves, realloc-case}
+use Rattle.lines.specs.Pieces.{fieldValues}
+
+-- ---- the code
+
+number-small : (why : Reason) → number why < 256
+number-small Length = omega arith
+number-small Damaged = omega arith
+number-small NotABlock = omega arith
+number-small Zero = omega arith
+number-small TooLarge = omega arith
+number-small NoRoom = omega arith
+number-small Frame = omega arith
+
+-- the code of a call's answer fits two digits
+pub code-fits : {fields : ℕ} {a : List ℕ} {Refuses : Reason → Type 0} {Does : List ℕ → List ℕ → Type 0} {outcome : Outcome}
+    → Case fields a Refuses Does outcome → outcome .answer .code < 256
+code-fits (refuses why r) = number-small why
+code-fits (does d) = omega arith
+
+-- ---- the fields
+
+-- all of these numbers are below `n`
+abbrev pub Below : ℕ → List ℕ → Type 0
+Below n [] = Unit {0}
+Below n (v ∷ vs) = (v < n) × Below n vs
+
+-- so many fields, each of which fits four digits
+pub record Fits (fields : ℕ) (values : List ℕ) : Type 0 where
+  pub count : length values ≡ fields
+  pub small : Below fieldValues values
+
+zeros-below : (fields : ℕ) → Below fieldValues (replicate fields 0)
+zeros-below zero = tt
+zeros-below (suc fields) = (omega arith, zeros-below fields)
+
+-- a refusal's fields are 0, so all depends on what is done
+case-fits : {fields : ℕ} {a : List ℕ} {Refuses : Reason → Type 0} {Does : List ℕ → List ℕ → Type 0} {outcome : Outcome}
+    → ((values after : List ℕ) → Does values after → Fits fields values) → Case fields a Refuses Does outcome → Fits fields (outcome .answer .values)
+case-fits {fields} f (refuses why r) = record { count = length-replicate fields 0; small = zeros-below fields }
+case-fits f (does {values} {after} d) = f values after d
+
+module _ (a : List ℕ) where
+  -- a need that is granted of the words of some chunks, `old`, gives two fields that fit
+  granted-fits : sound a ≡ true → (pre old post : List Chunk) (words needed block : ℕ) → chunksOf a ≡ pre ++ (old ++ post) → words ≡ total old → needed ≤ words
+      → block ≤ firstChunk + total pre + words + headerWords → Fits 2 (block ∷ (taken needed words - headerWords) ∷ [])
+  granted-fits e pre old post words needed block same all enough near =
+      let law = sound-chunks a e .law in
+      omega (arith, ap total same, total-append pre (old ++ post), total-append old post, cut-numbers needed words enough .within)
+
+  -- a start answers no field
+  pub start-fits : Fits 0 (startOn a .answer .values)
+  start-fits = case-fits go (start-case a)
+    where
+      go : (values after : List ℕ) → Starts a values after → Fits 0 values
+      go values after (starts l) = record { count = refl; small = tt }
+
+  -- alloc answers a block and its granted words, and both fit
+  pub alloc-fits : (n : ℕ) → Fits 2 (allocOn a n .answer .values)
+  alloc-fits n = case-fits go (alloc-case a n)
+    where
+      go : (values after : List ℕ) → Allots a n values after → Fits 2 values
+      go values after (allots e r pre s post is) =
+          granted-fits e pre (free s ∷ []) post s (need n) _ (is .same) (omega arith) (is .enough) (omega arith)
+
+  -- free answers no field
+  pub free-fits : (b : ℕ) → Fits 0 (freeOn a b .answer .values)
+  free-fits b = case-fits go (free-case a b)
+    where
+      go : (values after : List ℕ) → Frees a b values after → Fits 0 values
+      go values after (frees e pre s post is) = record { count = refl; small = tt }
+
+  -- realloc answers a block and its granted words, and both fit
+  pub realloc-fits : (b n : ℕ) → Fits 2 (reallocOn a b n .answer .values)
+  realloc-fits b n = case-fits go (realloc-case a b n)
+    where
+      go : (values after : List ℕ) → Regrants a b n values after → Fits 2 values
+      go values after (shrinks e r pre s post is l) =
+          granted-fits e pre (live s ∷ []) post s (need n) b (is .same) (omega arith) l (omega arith)
+      go values after (grows e r pre s t post is l m) =
+          granted-fits e pre (live s ∷ free t ∷ []) post (s + t) (need n) b (is .same) (omega arith) m (omega arith)
+      go values after (moves e r pre s post is l before g behind gap block at-is ks same) =
+          granted-fits e before (free g ∷ []) behind g (need n) block (gap .same) (omega arith) (gap .enough) (omega arith)
+
+  -- report answers four numbers, and all fit
+  pub report-fits : Fits 4 (reportOn a .answer .values)
+  report-fits = case-fits go (report-case a)
+    where
+      go : (values after : List ℕ) → Reports a values after → Fits 4 values
+      go values after (reports e) =
+          let small : tallies.Below greatestLength (counted (chunksOf a)) = rw tallied-counts at (tallied-small a e) in
+          omega arith

@@ -1,0 +1,70 @@
+-- What is heard of a text, in whatever pieces it comes, is what the text means.
+use mathlib.Core.Path.{_≡_, refl, sym, ap, _∙_}
+use mathlib.Core.Bool.{Bool, true, false}
+use mathlib.Core.List.{List, [], _∷_, _++_, append-nil, append-assoc, flatten}
+use Prim.Native.Nat.{ℕ, zero, suc, _<_}
+use native.Mathlib.Omega.{arith}
+use lib.Dec.{eqb}
+use lib.ListN.{replicate}
+use borrow.Author.Tests.{ne-eqb}
+use Rattle.lines.specs.Digits.{lineEnd}
+use Rattle.lines.specs.Requests.{requestOf}
+use Rattle.lines.specs.Boards.{Board, Replied, replied}
+use Rattle.lines.specs.Texts.{linesFrom, repliedTo, means}
+use Rattle.lines.specs.Pieces.{Hearing, atStart, hears, goesOn, ending, heardInPieces}
+use Rattle.lines.proofs.Cutting.{hears-append, heard-joined}
+use Rattle.lines.proofs.Lines.{placeOf, place-append, request-known, onward-begun, place-begun}
+
+-- a hearing whose text is at its end
+abbrev closed : Hearing → Replied
+closed hearing =
+    let whole = goesOn hearing (ending (hearing .place)) in
+    record { reply = whole .replies; board = whole .board }
+
+-- what is heard of a text that goes on with a line is what is replied to the lines that they make together
+abbrev HeardAsMeant : List ℕ → Type 0
+HeardAsMeant text = (line : List ℕ) (board : Board) → closed (hears (placeOf line) board text) ≡ repliedTo (linesFrom line text) board
+
+heard-as-meant : (text : List ℕ) → HeardAsMeant text
+unfolding hears linesFrom repliedTo
+heard-as-meant [] [] board = refl
+heard-as-meant [] (b ∷ line) board = rw (ne-eqb (placeOf (b ∷ line) .digits) 0 (omega (arith, place-begun atStart b line)), request-known (b ∷ line))
+heard-as-meant (b ∷ text) line board = go (eqb b lineEnd) refl (heard-as-meant text)
+  where
+    go : (ends : Bool) → eqb b lineEnd ≡ ends → HeardAsMeant text → closed (hears (placeOf line) board (b ∷ text)) ≡ repliedTo (linesFrom line (b ∷ text)) board
+    go true e rest = rw (e, hears, linesFrom, request-known line, append-assoc, ← rest [] (replied (requestOf line) board .board))
+    go false e rest = rw (e, hears, linesFrom, ← place-append atStart line b) (rest (line ++ b ∷ []) board)
+
+-- a text that comes whole is heard as it is meant
+pub whole-text : (text : List ℕ) (board : Board) → heardInPieces (text ∷ []) board ≡ means text board
+whole-text text board = heard-as-meant text [] board
+
+-- a text that comes in pieces is heard as it is meant, wherever it is cut
+pub pieces-mean : (pieces : List (List ℕ)) (board : Board) → heardInPieces pieces board ≡ means (flatten pieces) board
+pieces-mean pieces board = ap closed (heard-joined (record { replies = []; place = atStart; board = board }) pieces) ∙ whole-text (flatten pieces) board
+
+-- the empty text is answered nothing, and changes nothing
+pub nothing-said : (board : Board) → means [] board ≡ record { reply = []; board = board }
+unfolding linesFrom repliedTo
+nothing-said board = refl
+
+-- so it is where no piece comes, or any number of empty ones
+pub nothing-heard : (pieces : ℕ) (board : Board) → heardInPieces (replicate pieces []) board ≡ record { reply = []; board = board }
+unfolding hears
+nothing-heard zero board = refl
+nothing-heard (suc pieces) board = nothing-heard pieces board
+
+-- the end of a text ends an unfinished line as a line end does
+end-heard : (hearing : Hearing) → 0 < hearing .place .digits → closed (goesOn hearing (lineEnd ∷ [])) ≡ closed hearing
+unfolding hears
+end-heard hearing begun = simp (ne-eqb (hearing .place .digits) 0 (omega arith), append-nil)
+
+-- the last line may have an end or not, if it is not empty
+pub ended-line : (front : List ℕ) (b : ℕ) (board : Board) → (b ≡ lineEnd → ⊥) → means ((front ++ b ∷ []) ++ lineEnd ∷ []) board ≡ means (front ++ b ∷ []) board
+unfolding hears
+ended-line front b board other =
+    let text = front ++ b ∷ [] in
+    let begun : 0 < hears atStart board text .place .digits = rw (hears-append atStart board front (b ∷ []), ne-eqb b lineEnd other, hears) (onward-begun _ b) in
+    sym (whole-text (text ++ lineEnd ∷ []) board)
+    ∙ rw (hears-append atStart board text (lineEnd ∷ [])) (end-heard (hears atStart board text) begun)
+    ∙ whole-text text board

@@ -1,0 +1,20 @@
+-- Document 01's starred rows and its move hold: the checker computes them.
+use Prim.Native.Nat.{ℕ}
+use mathlib.Core.Path.{refl}
+use Rattle.layout.specs.Chunks.{header, write, written}
+use Rattle.layout.specs.Walk.{meet, walk, walkFrom, walked, sound, chunksOf}
+use Rattle.layout.specs.Reasons.{arenaGate, requestGate}
+use Rattle.arena.specs.Spots.{lowest}
+use Rattle.arena.specs.Rules.{joined, copied}
+use Rattle.arena.specs.Calls.{startOn, allocBy, freeOn, reallocOn, reportOn}
+use Rattle.lines.specs.Digits.{worth, glyph}
+use Rattle.lines.specs.Boards.{replyText, replied}
+use Rattle.lines.specs.Pieces.{onward, requestAt, hears}
+use Rattle.lines.specs.Table.{Table}
+
+pub table : Table
+unfolding startOn allocBy freeOn reallocOn reportOn arenaGate requestGate sound chunksOf walked walkFrom walk meet lowest joined copied written write header worth glyph replyText replied onward requestAt hears
+table = (
+  (refl, (refl, (refl, (refl, (refl, (refl, (refl, (refl, (refl, (refl, (refl, tt))))))))))),
+  λ (x y : ℕ). ((refl, (refl, (refl, (refl, tt)))), (refl, refl)),
+)

@@ -1,0 +1,33 @@
+-- `report` meets its contract: the call on the lent words, and its reply; nothing is stored.
+use mathlib.Core.Path.{sym}
+use lib.Seq.{length-take-le}
+use borrow.Author.Needs.{needs}
+use Rattle.lines.specs.Boards.{replied}
+use Rattle.lines.proofs.Answering.{reported-fields, report-read}
+use Rattle.lines.proofs.answer.report.Statement.{statement}
+use Rattle.lines.proofs.answer.report.Tie as tie
+
+slice-aggregate-report : tie.Need-slice-aggregate-report
+slice-aggregate-report c = sym (length-take-le _ _ (c .before .before .before .pre .lendable))
+
+report-requires : tie.Need-report-requires
+report-requires c κs = search needs
+
+put-reported-requires : tie.Need-put-reported-requires
+put-reported-requires c κs = search needs
+
+same-length : tie.Need-same-length
+same-length c = search needs
+
+returns : tie.Need-returns
+unfolding replied
+returns c =
+    let d = c .before .before in
+    let e = d .before .before in
+    let f = e .before .before .before .before in
+    report-read (f .args .words .now) (f .args .lent) (f .args .at) _ _ _ _ (f .pre .lendable) (e .report .ensures) (d .put-reported .ensures) (reported-fields (e .report .result))
+
+pub report-spec : {M : Type 1} → statement M
+report-spec =
+    tie.close
+    (tie.spec slice-aggregate-report report-requires put-reported-requires same-length returns)

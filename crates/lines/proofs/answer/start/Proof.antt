@@ -1,0 +1,90 @@
+-- `start` meets its contract: too few words, a start that is done, or one that is refused.
+use mathlib.Core.Path.{sym}
+use native.Mathlib.Omega.{arith}
+use lib.Seq.{length-take-le}
+use borrow.Author.Needs.{needs}
+use Rattle.lines.specs.Boards.{replied}
+use Rattle.lines.proofs.Answering.{start-lends-none, start-lends-refused, start-lends}
+use Rattle.lines.proofs.answer.start.Statement.{statement}
+use Rattle.lines.proofs.answer.start.Tie as tie
+
+put-finish-requires : tie.Need-put-finish-requires
+put-finish-requires c κs = search needs
+
+same-length : tie.Need-same-length
+same-length c = search needs
+
+returns : tie.Need-returns
+unfolding replied
+returns c =
+    let d = c .before .before in
+    let f = d .before .before .before .before .before in
+    start-lends-none (f .args .words .now) (f .args .n) (f .args .lent) (f .args .at) _ _ _ (omega arith) (f .pre .lendable) (d .put-finish .ensures)
+
+slice-relend-prefix-start : tie.Need-slice-relend-prefix-start
+slice-relend-prefix-start c = search needs
+
+slice-aggregate-start : tie.Need-slice-aggregate-start
+slice-aggregate-start c = sym (length-take-le _ _ (c .before .if1 .left))
+
+start-requires : tie.Need-start-requires
+start-requires c κs = search needs
+
+put-finish-requires-2 : tie.Need-put-finish-requires-2
+put-finish-requires-2 c κs = search needs
+
+enum-told : tie.Need-enum-told
+enum-told c = search needs
+
+same-length-2 : tie.Need-same-length-2
+same-length-2 c = search needs
+
+same-length-3 : tie.Need-same-length-3
+same-length-3 c = search needs
+
+returns-2 : tie.Need-returns-2
+unfolding replied
+returns-2 c =
+    let d = c .before .before .before .before in
+    let e = d .before .before .before .before in
+    let b = e .before .before in
+    let x = b .before .before .before .args in
+    start-lends (x .words .now) (x .n) (x .lent) (x .at) _ _ _ _ (b .if1 .left) (same-length-2 c) (rw (c .enum-told .given .1) at (e .start .ensures)) (rw (c .enum-told .given .1) at (d .put-finish2 .ensures))
+
+enum-told-2 : tie.Need-enum-told-2
+enum-told-2 c = search needs
+
+same-length-4 : tie.Need-same-length-4
+same-length-4 c = search needs
+
+same-length-5 : tie.Need-same-length-5
+same-length-5 c = search needs
+
+returns-3 : tie.Need-returns-3
+unfolding replied
+returns-3 c =
+    let d = c .before .before .before .before in
+    let e = d .before .before .before .before in
+    let b = e .before .before in
+    let x = b .before .before .before .args in
+    start-lends-refused (x .words .now) (x .n) (x .lent) (x .at) _ (c .enum-told2 .given .0 .0) _ _ _ (b .if1 .left) (b .before .before .before .pre .lendable) (rw (c .enum-told2 .given .1) at (e .start .ensures)) (rw (c .enum-told2 .given .1) at (d .put-finish2 .ensures))
+
+pub start-spec : {M : Type 1} → statement M
+start-spec =
+    tie.close
+    (tie.spec
+    put-finish-requires
+    same-length
+    returns
+    slice-relend-prefix-start
+    slice-aggregate-start
+    start-requires
+    put-finish-requires-2
+    enum-told
+    same-length-2
+    same-length-3
+    returns-2
+    enum-told-2
+    same-length-4
+    same-length-5
+    returns-3)

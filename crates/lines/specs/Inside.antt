@@ -1,0 +1,2 @@
+-- What the functions inside promise; no public promise cites it.
+pub mod Answering

@@ -1,0 +1,8 @@
+pub mod Digits
+pub mod Requests
+pub mod Boards
+pub mod Texts
+pub mod Pieces
+pub mod Sessions
+pub mod Table
+pub mod Inside

@@ -1,0 +1,28 @@
+-- What a line asks for.
+use Prim.Native.Nat.{ℕ, _+_, _*_}
+use mathlib.Core.Bool.{Bool, cond, _&&_}
+use mathlib.Core.List.{List}
+use lib.ListN.{length, take, drop}
+use lib.Dec.{eqb}
+use Rattle.lines.specs.Digits.{allDigits, numberOf}
+use Rattle.lines.specs.declared.request.Request.{Request}
+use Rattle.lines.specs.declared.request.Request.the-variants.{Start, Alloc, Free, Realloc, Report, Malformed}
+
+-- the line is of this kind, two digits, and has so many fields, four digits each
+abbrev pub asks : List ℕ → ℕ → ℕ → Bool
+asks line kind fields = eqb (length line) (2 + fields * 4) && eqb (numberOf (take 2 line)) kind
+
+-- a field of the line, numbered from 0
+abbrev pub field : List ℕ → ℕ → ℕ
+field line i = numberOf (take 4 (drop (2 + i * 4) line))
+
+-- the request of a line, given without its end
+unfoldable pub requestOf : List ℕ → Request
+requestOf line =
+    cond (allDigits line)
+    (cond (asks line 1 1) (Start (field line 0))
+    (cond (asks line 2 1) (Alloc (field line 0))
+    (cond (asks line 3 1) (Free (field line 0))
+    (cond (asks line 4 2) (Realloc (field line 0) (field line 1))
+    (cond (asks line 5 0) Report Malformed)))))
+    Malformed

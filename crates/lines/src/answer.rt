@@ -1,0 +1,109 @@
+// A request answered: the call on the lent words, and its reply.
+use super::reply;
+use super::request::Request;
+use arena::Finish;
+use layout::Reason;
+use layout::wide;
+ghost use Rattle.lines.specs.Boards.{replied};
+ghost use Rattle.lines.specs.Inside.Answering.{Ready, Answers, board};
+ghost use Rattle.lines.specs.declared.request.Request.the-variants.{Start, Alloc, Free, Realloc, Report, Malformed};
+
+// How many words are lent after a reply, and where it ends.
+pub(crate) struct Said {
+    pub lent: usize,
+    pub end: usize,
+}
+
+// Answers a request; the reply is put at `at`.
+pub(crate) fn answer(
+    request: Request,
+    words: &mut [u32],
+    lent: usize,
+    out: &mut [u8],
+    at: usize,
+) -> Said
+    requires { ⌜ Ready (now words) lent (now out) at ⌝ }
+    ensures { λ r. ⌜ Answers (replied request (board (now (words .entry)) lent)) (now (words .exit)) (r .lent) at (now (out .entry)) (r .end) (now (out .exit)) ⌝ }
+{
+    match request {
+        Request::Start(n) => start(wide(n), words, lent, out, at),
+        Request::Alloc(n) => Said {
+            lent,
+            end: alloc(n, words, lent, out, at),
+        },
+        Request::Free(b) => Said {
+            lent,
+            end: free(b, words, lent, out, at),
+        },
+        Request::Realloc(b, n) => Said {
+            lent,
+            end: realloc(b, n, words, lent, out, at),
+        },
+        Request::Report => Said {
+            lent,
+            end: report(words, lent, out, at),
+        },
+        Request::Malformed => Said {
+            lent,
+            end: malformed(words, lent, out, at),
+        },
+    }
+}
+
+// A start lends the first `n` words; one that is refused changes nothing.
+fn start(n: usize, words: &mut [u32], lent: usize, out: &mut [u8], at: usize) -> Said
+    requires { ⌜ Ready (now words) lent (now out) at ⌝ }
+    ensures { λ r. ⌜ Answers (replied (Start n) (board (now (words .entry)) lent)) (now (words .exit)) (r .lent) at (now (out .entry)) (r .end) (now (out .exit)) ⌝ }
+{
+    if words.len() < n {
+        return Said {
+            lent,
+            end: reply::put_finish(out, at, 1, Finish::Refused(Reason::Length)),
+        };
+    }
+    let finish = arena::start(&mut words[..n]);
+    let end = reply::put_finish(out, at, 1, finish);
+    if let Finish::Done = finish {
+        return Said { lent: n, end };
+    }
+    Said { lent, end }
+}
+
+fn alloc(n: u32, words: &mut [u32], lent: usize, out: &mut [u8], at: usize) -> usize
+    requires { ⌜ Ready (now words) lent (now out) at ⌝ }
+    ensures { λ r. ⌜ Answers (replied (Alloc n) (board (now (words .entry)) lent)) (now (words .exit)) lent at (now (out .entry)) r (now (out .exit)) ⌝ }
+{
+    let granted = arena::alloc(&mut words[..lent], n);
+    reply::put_granted(out, at, 2, granted)
+}
+
+fn free(b: u32, words: &mut [u32], lent: usize, out: &mut [u8], at: usize) -> usize
+    requires { ⌜ Ready (now words) lent (now out) at ⌝ }
+    ensures { λ r. ⌜ Answers (replied (Free b) (board (now (words .entry)) lent)) (now (words .exit)) lent at (now (out .entry)) r (now (out .exit)) ⌝ }
+{
+    let finish = arena::free(&mut words[..lent], b);
+    reply::put_finish(out, at, 3, finish)
+}
+
+fn realloc(b: u32, n: u32, words: &mut [u32], lent: usize, out: &mut [u8], at: usize) -> usize
+    requires { ⌜ Ready (now words) lent (now out) at ⌝ }
+    ensures { λ r. ⌜ Answers (replied (Realloc b n) (board (now (words .entry)) lent)) (now (words .exit)) lent at (now (out .entry)) r (now (out .exit)) ⌝ }
+{
+    let granted = arena::realloc(&mut words[..lent], b, n);
+    reply::put_granted(out, at, 4, granted)
+}
+
+fn report(words: &[u32], lent: usize, out: &mut [u8], at: usize) -> usize
+    requires { ⌜ Ready (now words) lent (now out) at ⌝ }
+    ensures { λ r. ⌜ Answers (replied Report (board (now (words .entry)) lent)) (now (words .entry)) lent at (now (out .entry)) r (now (out .exit)) ⌝ }
+{
+    let counts = arena::report(&words[..lent]);
+    reply::put_reported(out, at, 5, counts)
+}
+
+fn malformed(words: &[u32], lent: usize, out: &mut [u8], at: usize) -> usize
+    requires { ⌜ Ready (now words) lent (now out) at ⌝ }
+    ensures { λ r. ⌜ Answers (replied Malformed (board (now (words .entry)) lent)) (now (words .entry)) lent at (now (out .entry)) r (now (out .exit)) ⌝ }
+{
+    reply::put_reply(out, at, 0, layout::number(Reason::Frame), &[])
+}

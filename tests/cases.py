@@ -1,0 +1,64 @@
+"""Cases for the program `cases`: how one is written, and what the model replies to it.
+
+A case is one call on one arena: the words call, b, n, length, then the arena. The reply is the code, four
+fields, the length of the part that a view handed back, that part, and the arena after the call.
+"""
+
+import struct
+from collections import namedtuple
+
+import model
+
+START, ALLOC, FREE, REALLOC, REPORT, SIZE, VIEW, VIEW_MUT = range(1, 9)
+NAMES = ["?", "start", "alloc", "free", "realloc", "report", "size", "view", "view_mut"]
+LONGEST_CASE = 16400
+FIELDS = 4
+
+Case = namedtuple("Case", "call block asked words")
+
+CALLS = {
+    START: lambda case: model.start(case.words),
+    ALLOC: lambda case: model.alloc(case.words, case.asked),
+    FREE: lambda case: model.free(case.words, case.block),
+    REALLOC: lambda case: model.realloc(case.words, case.block, case.asked),
+    REPORT: lambda case: model.report(case.words),
+    SIZE: lambda case: model.size(case.words, case.block),
+    VIEW: lambda case: model.view(case.words, case.block),
+    VIEW_MUT: lambda case: overwritten(case),
+}
+
+
+def overwritten(case):
+    """A view to write into: every word of the part handed back becomes the number asked."""
+    seen = model.view(case.words, case.block)
+    after = list(case.words)
+    after[case.block:case.block + len(seen.part)] = [case.asked] * len(seen.part)
+    return seen._replace(words=after)
+
+
+def answer_to(case):
+    """What the model answers; a call of another number is malformed and changes nothing."""
+    if case.call not in CALLS:
+        return model.Answer(model.FRAME, (), [], case.words)
+    return CALLS[case.call](case)
+
+
+def packed(words):
+    """Words as bytes, the low byte first."""
+    return struct.pack(f"<{len(words)}I", *words)
+
+
+def case_bytes(case):
+    """A case as the program reads it."""
+    return packed([case.call, case.block, case.asked, len(case.words), *case.words])
+
+
+def reply_bytes(answer):
+    """A reply as the program writes it."""
+    fields = list(answer.fields) + [0] * (FIELDS - len(answer.fields))
+    return packed([answer.code, *fields, len(answer.part), *answer.part, *answer.words])
+
+
+def name_of(call):
+    """The call's name, for messages."""
+    return NAMES[call] if call in CALLS else f"call number {call}"

@@ -1,0 +1,145 @@
+"""Holds every call on random arenas, sound, spoiled and of any words, to the model: answers and all words."""
+
+import random as numbers
+from collections import Counter
+
+import arenas
+import cases
+import driver
+import model
+from comparing import run_cases
+
+AT_ONCE = 4000
+EDGES = [6, 8, 16380, 16382, 16383, 16384, 16385, 16386, 16400]
+BIG = [0, 1, 2, 65536, 65540, 2**31 - 1, 2**31, 2**32 - 4, 2**32 - 3, 2**32 - 2, 2**32 - 1]
+
+# What a run must have met to mean anything: every call with every code that it can give.
+CODES = {"start": (0, 1), "alloc": (0, 1, 2, 4, 5, 6), "free": (0, 1, 2, 3), "realloc": (0, 1, 2, 3, 4, 5, 6),
+         "report": (0, 1, 2), "size": (0, 1, 2, 3), "view": (0,), "view_mut": (0,), "another": (7,)}
+PARTS = ("view empty", "view whole", "view_mut empty", "view_mut whole")
+
+# And every way to be done, with the change it makes in the number of free chunks.
+WAYS = {"alloc": (-1, 0), "free": (-1, 0, 1), "kept": (0,), "cut": (0, 1), "grown": (-1, 0), "moved": (-2, -1, 0, 1)}
+
+
+def length_for(random, number):
+    """Every length from 0 to 95 in turn, the lawful ones more often; now and then a longer one, up to 16,400."""
+    if number % 200 == 77:
+        return random.choice(EDGES + [2 * random.randrange(40, 8193)])
+    if number % 4 == 0:
+        return number // 4 % 96
+    return 2 * random.randrange(3, 200 if number % 4 == 1 else 48)
+
+
+def arena_for(random, number):
+    """An arena of some kind; lengths that no arena can have get words of any kind, or a sound arena's and more."""
+    length = length_for(random, number)
+    lawful = length % 2 == 0 and model.LEAST_ARENA <= length <= model.LONGEST_ARENA
+    kind = random.random()
+    if lawful and kind < 0.9:
+        return arenas.sound_arena(random, length) if kind < 0.55 else arenas.spoiled_arena(random, length)
+    return arenas.any_arena(random, length)
+
+
+def block_for(random, arena):
+    """A block's number: mostly a true one, else a gap's, an imitation's, one beside these, or any number."""
+    length = len(arena.words)
+    kind = random.random()
+    if arena.chunks and kind < 0.85:
+        live = [piece for piece in arena.chunks if piece.live and kind < 0.7]
+        block = random.choice(live or arena.chunks).start + 2
+        return block if kind < 0.79 else max(block + random.choice([-4, -2, -1, 1, 2, 4, 65536, 2**31]), 0)
+    imitated = [at + 2 for at in range(2, length - 1) if arena.words[at + 1] == model.LIVE_MARK]
+    if imitated and kind < 0.95:
+        return random.choice(imitated)
+    return random.choice(BIG + [3, 4, 5, length, length + 2, random.getrandbits(32), random.randrange(length + 3)])
+
+
+def asked_for(random, arena):
+    """A number of words: near what the chunks have, near the limit, small, or any number."""
+    length = len(arena.words)
+    kind = random.random()
+    gaps = [piece.size for piece in arena.chunks if not piece.live]
+    if gaps and kind < 0.3:
+        return max(random.choice(gaps) - 2 - random.randint(0, 3), 0)
+    if arena.chunks and kind < 0.6:
+        place = random.randrange(len(arena.chunks))
+        together = sum(piece.size for piece in arena.chunks[place:place + random.choice([1, 1, 2])])
+        return max(together - 2 + random.randint(-7, 4), 0)
+    if kind < 0.8:
+        return random.randint(1, 12)
+    return random.choice(BIG + [max(length - 4 + change, 0) for change in (-2, -1, 0, 1, 2)] + [random.getrandbits(32)])
+
+
+def case_for(random, number):
+    """One case: a call, its numbers and its arena."""
+    arena = arena_for(random, number)
+    call = random.choice([cases.START, cases.REPORT, cases.SIZE, cases.VIEW, cases.VIEW_MUT, 0]
+                         + [cases.ALLOC, cases.FREE] * 3 + [cases.REALLOC] * 6)
+    if call == 0:
+        call = random.choice([0, 9, 10, 257, 258, 2**16 + 2, 2**31 + 3, 2**32 - 1, cases.ALLOC, cases.REALLOC])
+    return cases.Case(call, block_for(random, arena), asked_for(random, arena), arena.words)
+
+
+def way_of(case, answer):
+    """How a call that was done was done: its name, or by which way a realloc."""
+    if case.call != cases.REALLOC:
+        return cases.name_of(case.call)
+    before = model.size(case.words, case.block).fields[0]
+    block, granted = answer.fields
+    if block != case.block:
+        return "moved"
+    return "kept" if granted == before else "grown" if granted > before else "cut"
+
+
+def met_by(case, answer):
+    """What this case shows, for the count of what was met."""
+    name = cases.name_of(case.call) if case.call in cases.CALLS else "another"
+    yield name, "code", answer.code
+    if case.call in (cases.VIEW, cases.VIEW_MUT):
+        yield f"{name} {'whole' if answer.part else 'empty'}"
+    if case.call in (cases.ALLOC, cases.FREE, cases.REALLOC) and answer.code == model.DONE:
+        free_chunks = [model.report(words).fields[3] for words in (case.words, answer.words)]
+        yield way_of(case, answer), "free chunks", free_chunks[1] - free_chunks[0]
+
+
+def unfinished(random, number):
+    """Bytes after the last case that are no case: nothing, a case cut short, or one longer than is allowed."""
+    whole = cases.case_bytes(case_for(random, 12))
+    too_long = [cases.packed([cases.REPORT, 0, 0, length]) for length in (16401, 2**30, 2**31, 2**32 - 1)]
+    kinds = [b"", b"\1", whole[:15], whole[:16], whole[:-1], whole[:random.randrange(16, len(whole))]]
+    kinds += [start + bytes(4 * 16401) + whole for start in too_long]
+    return kinds[number % len(kinds)]
+
+
+def check_met(met):
+    """A run that has not met every code and every way compares too little."""
+    codes = [(name, "code", code) for name, codes in CODES.items() for code in codes]
+    ways = [(way, "free chunks", change) for way, changes in WAYS.items() for change in changes]
+    missing = [what for what in [*codes, *ways, *PARTS] if met[what] < 10]
+    if missing:
+        raise driver.Difference(f"the cases are too few or too alike: hardly met {missing}")
+
+
+def compare(chosen):
+    """Batches of cases, each run at once; the last line counts calls."""
+    random = numbers.Random(chosen.seed)
+    met = Counter()
+    done = 0
+    batch = 0
+    while done < chosen.count or batch < 10:
+        asked = [case_for(random, done + place) for place in range(min(AT_ONCE, max(chosen.count // 10, 1)))]
+        answers = [cases.answer_to(case) for case in asked]
+        run_cases(chosen.cases, asked, answers, unfinished(random, batch))
+        for case, answer in zip(asked, answers):
+            met.update(met_by(case, answer))
+        done += len(asked)
+        batch += 1
+    if chosen.count >= 20000:
+        check_met(met)
+    met_done = sum(count for what, count in met.items() if what[1:] == ("code", model.DONE))
+    return f"{done:,} calls compared with all their words; {met_done:,} of them were answered 0, the others a reason"
+
+
+if __name__ == "__main__":
+    driver.finish("damaged_arenas", compare, driver.options(__doc__, 100000, named=("cases",)))

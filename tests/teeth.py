@@ -1,0 +1,108 @@
+"""Shows that the comparers and the drivers complain: each is given something wrong and has to see it."""
+
+import os
+import shlex
+import subprocess
+import sys
+import tempfile
+
+import cases
+import driver
+import lines
+import programs
+from comparing import compare_answers, compare_replies
+
+LINES = b"010020\n020005\n020001\n05\n03001A\n0Z\n"
+SOUND = [12, 6, 4, 4294967295, 77, 78, 6, 0, 79, 80, 81, 82]
+CASES = [cases.Case(cases.ALLOC, 0, 2, SOUND), cases.Case(cases.VIEW, 4, 0, SOUND), cases.Case(cases.FREE, 4, 0, SOUND)]
+
+# Faults of a stand-in for a program, and the drivers that have to see them.
+FAULTS = [
+    ("document_rows", "board", ["digit", "missing", "extra", "tail"]),
+    ("document_rows", "cases", ["word", "missing", "extra"]),
+    ("random_lines", "board", ["digit", "missing", "extra", "tail", "early"]),
+    ("damaged_arenas", "cases", ["word", "missing", "extra", "tail", "believe", "clear", "early"]),
+]
+
+
+def complains(comparer, *arguments):
+    """Whether a comparer sees a difference."""
+    try:
+        comparer(*arguments)
+    except driver.Difference:
+        return True
+    return False
+
+
+def wrong_replies(true):
+    """Replies to the lines above, each wrong in one thing."""
+    replies = true.splitlines(keepends=True)
+    yield "a digit changed", true.replace(b"001A", b"001B", 1)
+    yield "a letter in lower case", true.replace(b"001A", b"001a", 1)
+    yield "a reply missing", b"".join(replies[:2] + replies[3:])
+    yield "the last reply missing", b"".join(replies[:-1])
+    yield "a reply too many", b"".join(replies + replies[-1:])
+    yield "the last LF missing", true[:-1]
+    yield "nothing at all", b""
+
+
+def wrong_answers(true):
+    """Replies to the cases above, each wrong in one thing."""
+    for at in range(0, len(true), 4):
+        yield f"word {at // 4} of the replies changed", true[:at] + bytes([true[at] ^ 1]) + true[at + 1:]
+    yield "the last byte missing", true[:-1]
+    yield "a word too many", true + bytes(4)
+    yield "nothing at all", b""
+
+
+def check_comparers():
+    """Each wrong output must be seen, and the true ones taken; gives how many were tried."""
+    replies = lines.output_for(LINES)
+    answers = [cases.answer_to(case) for case in CASES]
+    written = b"".join(map(cases.reply_bytes, answers))
+    tried = [(what, complains(compare_replies, LINES, replies, wrong)) for what, wrong in wrong_replies(replies)]
+    tried += [(what, complains(compare_answers, CASES, answers, wrong)) for what, wrong in wrong_answers(written)]
+    tried += [("the true replies", not complains(compare_replies, LINES, replies, replies))]
+    tried += [("the true answers", not complains(compare_answers, CASES, answers, written))]
+    wrong_about = [what for what, right in tried if not right]
+    if wrong_about:
+        raise driver.Difference(f"the comparers are wrong about: {wrong_about}")
+    return len(tried)
+
+
+def in_tests(name):
+    """The path of a file of the tests."""
+    return os.path.join(programs.ROOT, "tests", name)
+
+
+def sees_difference(name, folder, seed, faulty, fault):
+    """Whether a driver tells of a difference on stand-ins, one of them with a fault; None when it says neither."""
+    command = [sys.executable, in_tests(name + ".py"), "--seed", str(seed), "--count", "3000", "--keep", folder]
+    both = name == "document_rows"
+    for program in ("board", "cases") if both else (faulty,):
+        words = [sys.executable, in_tests("stand_in.py"), program] + [fault] * (program == faulty and fault != "")
+        command += ["--program-" + program if both else "--program", shlex.join(words)]
+    ended = subprocess.run(command, stdout=subprocess.PIPE)
+    return {(0, False): False, (1, True): True}.get((ended.returncode, b": DIFFERENCE " in ended.stdout))
+
+
+def check_drivers(seed):
+    """A driver must see a difference on a stand-in with a fault and none on a true one; gives the number of faults."""
+    count = 0
+    with tempfile.TemporaryDirectory() as folder:
+        for name, faulty, faults in FAULTS:
+            for fault in ["", *faults]:
+                if sees_difference(name, folder, seed, faulty, fault) is not (fault != ""):
+                    raise driver.Difference(f"{name} is wrong about a {faulty} with the fault '{fault or 'none'}'")
+            count += len(faults)
+    return count
+
+
+def compare(chosen):
+    """The comparers first, then the drivers; the last line counts what they were tried on."""
+    judged, seen = check_comparers(), check_drivers(chosen.seed)
+    return f"{judged} outputs, wrong and true, were judged rightly, and all {seen} faulty programs were seen"
+
+
+if __name__ == "__main__":
+    driver.finish("teeth", compare, driver.options(__doc__, 1, named=()))
