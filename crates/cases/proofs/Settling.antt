@@ -44,4 +44,4 @@ pub replied : {call b n : ℕ} {a : List ℕ} {x : Answered} {after copy : List 
     → Settles (outcomeOf call b n a) x after → Replies call b n a (record { answered = x; count = 0 }) after copy
 replied {call} n7 n8 k s =
     let none : isView call ≡ false = simp (ne-eqb call 7 n7, ne-eqb call 8 n8) in
-    record { answers = rw none (s .answers); hands = rw none (record { counts = refl; holds = refl }); keeps = k; leaves = λ h. rw none (s .leaves) }
+    record { answers = rw none (s .answers); hands = rw none (record { counts = refl; holds = refl }); keeps = k; leaves = λ h. rw (ne-eqb call 7 n7) (s .leaves) }

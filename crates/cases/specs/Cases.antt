@@ -70,9 +70,9 @@ answerTo call b n a = cond (isView call) (success []) (outcomeOf call b n a .ans
 abbrev pub partOf : ℕ → ℕ → List ℕ → List ℕ
 partOf call b a = cond (isView call) (viewOn a b) []
 
--- the words after a case: a view leaves them as they were; those that are stored through a view_mut are not spoken of
+-- the words after a case: a view leaves them as they were. (Those that are stored through a view_mut are not spoken of.)
 abbrev pub wordsAfter : ℕ → ℕ → ℕ → List ℕ → List ℕ
-wordsAfter call b n a = cond (isView call) a (outcomeOf call b n a .words)
+wordsAfter call b n a = cond (eqb call 7) a (outcomeOf call b n a .words)
 
 -- the promise of a reply to a case on the words `a`. Of the arena after a view_mut it says the length alone: no contract can say what it holds once words were stored through the part
 pub record Replies (call b n : ℕ) (a : List ℕ) (reply : Reply) (after copy : List ℕ) : Type 0 where
@@ -91,5 +91,5 @@ numbersOf reply =
 pub record Buffers (words part bytes : List ℕ) : Type 0 where
   pub room : length words ≤ length part
   pub spells : 4 * length part ≤ length bytes
-  pub replies : 6 ≤ length part
+  pub replies : 4 * 6 ≤ length bytes
   pub counts : length part < wordValues

@@ -14,8 +14,8 @@ ghost use Prim.Native.Nat.{_*_, _≤_};
 ghost use lib.ListN.{length};
 ghost use Rattle.cases.specs.Cases.{Buffers};
 
-// The most words that the arena of a case may have.
-const MOST_WORDS: usize = 16400;
+// The most words that the arena of a case may have: some more than is lawful, for the tests to try.
+const MOST_WORDS: usize = layout::GREATEST_LENGTH + 16;
 
 // The bytes that spell them.
 const MOST_BYTES: usize = 4 * MOST_WORDS;

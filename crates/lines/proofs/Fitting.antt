@@ -21,7 +21,7 @@ use Rattle.arena.proofs.Moving.{cut-numbers}
 use Rattle.arena.proofs.Tallying.{counted, tallied-counts, tallied-small}
 use Rattle.arena.proofs.Cases.{Case, refuses, does, Starts, starts, start-case, Allots, allots, alloc-case, Frees, frees, free-case, Reports, reports, report-case}
 use Rattle.arena.proofs.Regranting.{Regrants, shrinks, grows, moves, realloc-case}
-use Rattle.lines.specs.Pieces.{fieldValues}
+use Rattle.lines.specs.Places.{fieldValues}
 
 -- ---- the code
 
@@ -35,10 +35,10 @@ number-small NoRoom = omega arith
 number-small Frame = omega arith
 
 -- the code of a call's answer fits two digits
-pub code-fits : {fields : ℕ} {a : List ℕ} {Refuses : Reason → Type 0} {Does : List ℕ → List ℕ → Type 0} {outcome : Outcome}
+pub code-below : {fields : ℕ} {a : List ℕ} {Refuses : Reason → Type 0} {Does : List ℕ → List ℕ → Type 0} {outcome : Outcome}
     → Case fields a Refuses Does outcome → outcome .answer .code < 256
-code-fits (refuses why r) = number-small why
-code-fits (does d) = omega arith
+code-below (refuses why r) = number-small why
+code-below (does d) = omega arith
 
 -- ---- the fields
 

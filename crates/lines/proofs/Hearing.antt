@@ -1,20 +1,21 @@
 -- Bytes heard one after the other.
-use Prim.Native.Nat.{ℕ, _+_, _*_, _/_, _≤_, _<_, min}
+use Prim.Native.Nat.{ℕ, _+_, _*_, _/_, _≤_, min}
 use mathlib.Core.Path.{_≡_, refl, sym, ap, _∙_, subst, subst⁻¹}
 use mathlib.Core.Bool.{Bool, true, false, cond}
 use mathlib.Core.List.{List, [], _∷_, _++_, append-nil}
 use native.Mathlib.Omega.{arith}
 use lib.ListN.{length, take, drop, length-append, length-drop}
-use lib.Seq.{sets, sets-eq, take-all}
+use lib.Seq.{sets-eq, take-all}
 use lib.Dec.{leb, eqb}
 use borrow.Author.Tests.{ne-eqb, leb-true, leb-false}
 use Rattle.lines.specs.Digits.{lineEnd}
-use Rattle.lines.specs.Boards.{Board, replied}
-use Rattle.lines.specs.Pieces.{longestReply, atStart, onward, requestAt, Hearing, hears, goesOn, ending, answerable, Hears}
-use Rattle.lines.specs.Inside.Answering.{Puts, Answers, HearsByte, board}
+use Rattle.lines.specs.Boards.{Board, lending, longestReply, replied}
+use Rattle.lines.specs.Places.{atStart, onward, requestAt}
+use Rattle.lines.specs.Pieces.{Hearing, hears, ending, answerable, HearsAll}
+use Rattle.lines.specs.Inside.Answering.{Puts, Answers, HearsByte}
 use Rattle.lines.specs.declared.Place.{Place}
 use Rattle.lines.specs.declared.Heard.{Heard}
-use Rattle.lines.proofs.Putting.{puts-then, put-length}
+use Rattle.lines.proofs.Putting.{puts-then}
 use Rattle.lines.proofs.Cutting.{hears-append}
 
 -- ---- one byte
@@ -37,9 +38,9 @@ unfolding hears
 hears-more place on b other = rw (ne-eqb b lineEnd other, hears)
 
 pub more-heard : (place : Place) (words : List ℕ) (lent b at : ℕ) (room : List ℕ) → (b ≡ lineEnd → ⊥) → lent ≤ length words
-    → HearsByte place (board words lent) b (onward place b) words lent at room at room
+    → HearsByte place (lending words lent) b (onward place b) words lent at room at room
 more-heard place words lent b at room other fits =
-    let more = hears-more place (board words lent) b other in
+    let more = hears-more place (lending words lent) b other in
     record {
       places = sym (ap (λ (h : Hearing). h .place) more);
       answers =
@@ -58,18 +59,18 @@ pub record HeardSoFar (from : Place) (on : Board) (bytes room : List ℕ) (place
   pub few : written ≤ length bytes * longestReply
   pub lendable : lent ≤ length words
 
-pub none-heard : (from : Place) (words room : List ℕ) (lent : ℕ) → lent ≤ length words → HeardSoFar from (board words lent) [] room from lent 0 words room
+pub none-heard : (from : Place) (words room : List ℕ) (lent : ℕ) → lent ≤ length words → HeardSoFar from (lending words lent) [] room from lent 0 words room
 unfolding hears
 none-heard from words room lent fits =
     record { places = refl; lends = refl; stores = refl; puts = record { ends = refl; says = refl }; few = omega arith; lendable = fits }
 
 -- one byte more
 pub heard-on : (from : Place) (on : Board) (bytes room : List ℕ) (place : Place) (lent written : ℕ) (words text : List ℕ) (b : ℕ) (next : Place) (lent′ end : ℕ) (words′ text′ : List ℕ)
-    → HeardSoFar from on bytes room place lent written words text → HearsByte place (board words lent) b next words′ lent′ written text end text′
+    → HeardSoFar from on bytes room place lent written words text → HearsByte place (lending words lent) b next words′ lent′ written text end text′
     → HeardSoFar from on (bytes ++ b ∷ []) room next lent′ end words′ text′
 heard-on from on bytes room place lent written words text b next lent′ end words′ text′ so byte =
     let before = hears from on bytes in
-    let known : hears place (board words lent) (b ∷ []) ≡ hears (before .place) (before .board) (b ∷ []) = rw (so .places, so .lends, so .stores) in
+    let known : hears place (lending words lent) (b ∷ []) ≡ hears (before .place) (before .board) (b ∷ []) = rw (so .places, so .lends, so .stores) in
     let all = hears-append from on bytes (b ∷ []) in
     let one = byte .answers in
     record {
@@ -102,7 +103,7 @@ answerable-taken piece room most e = go (leb (length room / longestReply) (lengt
         take-all most piece long ∙ sym (take-all (length room / longestReply) piece longer)
 
 pub all-heard : (from : Place) (on : Board) (bytes room : List ℕ) (heard : Heard) (words text : List ℕ) → heard .taken ≡ length bytes → length bytes * longestReply ≤ length room
-    → HeardSoFar from on bytes room (heard .place) (heard .lent) (heard .written) words text → Hears from on bytes room heard words text
+    → HeardSoFar from on bytes room (heard .place) (heard .lent) (heard .written) words text → HearsAll from on bytes room heard words text
 all-heard from on bytes room heard words text taken roomy so =
     let replies = hears from on bytes .replies in
     let none : 0 + length replies ≡ length replies = omega arith in
@@ -133,7 +134,7 @@ ending-short place = go (eqb (place .digits) 0)
     go false = omega arith
 
 -- the replies stand inside the lent text
-pub written-fits : {from : Place} {on : Board} {bytes room : List ℕ} {heard : Heard} {words text : List ℕ} → Hears from on bytes room heard words text
+pub written-fits : {from : Place} {on : Board} {bytes room : List ℕ} {heard : Heard} {words text : List ℕ} → HearsAll from on bytes room heard words text
     → length text ≡ length room → heard .written ≤ length text
 written-fits {from} {on} {bytes} {room} h kept =
     let replies = hears from on bytes .replies in

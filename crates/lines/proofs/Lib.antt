@@ -7,8 +7,10 @@ pub mod Cutting
 pub mod Lines
 pub mod Hearing
 pub mod Meaning
+pub mod Sessions
+pub mod Determined
 pub mod Fitting
 pub mod Telling
-pub mod Determined
-pub mod Sessions
+pub mod Refusing
+pub mod Malformed
 pub mod Table

@@ -12,7 +12,7 @@ use borrow.Author.Tests.{ltb-true, ltb-false, le-leb, lt-leb, eqb-true}
 use Rattle.layout.proofs.Bools.{both}
 use Rattle.lines.specs.Digits.{worth, isDigit, allDigits, numberFrom, numberOf}
 use Rattle.lines.specs.Requests.{field, requestOf}
-use Rattle.lines.specs.Pieces.{mostDigits, atStart, spoilt, fieldValues, nineDigits, onward, requestAt}
+use Rattle.lines.specs.Places.{mostDigits, atStart, spoilt, fieldValues, nineDigitValues, onward, requestAt}
 use Rattle.lines.specs.declared.Place.{Place}
 use Rattle.lines.specs.declared.request.Request.the-variants.{Malformed}
 
@@ -53,7 +53,7 @@ empty-known (b ∷ bs) = (λ none. let z : ⊥ = omega (arith, place-begun atSta
 
 -- what ten digits make is below this number
 abbrev tenDigits : ℕ
-tenDigits = nineDigits * 16
+tenDigits = nineDigitValues * 16
 
 -- the place after so many digits, which keeps what the last ten of them make
 abbrev counted : ℕ → ℕ → Place
@@ -82,7 +82,7 @@ place-known digits number (b ∷ bs) bytes e few =
     go false p room q rest = rw p (spoilt-stays bs)
     go true p false q rest = let more : mostDigits < bytes = omega (arith, ltb-false digits mostDigits q) in rw (p, q, lt-leb bytes mostDigits more, and-false) (spoilt-stays bs)
     go true p true q rest =
-        let sum : number % tenDigits % nineDigits * 16 + worth b ≡ (number * 16 + worth b) % tenDigits = omega (arith, ltb-true (worth b) 16 p) in
+        let sum : number % tenDigits % nineDigitValues * 16 + worth b ≡ (number * 16 + worth b) % tenDigits = omega (arith, ltb-true (worth b) 16 p) in
         rw (p, q, sum) (rest (omega (arith, ltb-true digits mostDigits q)))
 
 -- ---- what digits make

@@ -9,17 +9,12 @@ use lib.ListN.{replicate}
 use borrow.Author.Tests.{ne-eqb}
 use Rattle.lines.specs.Digits.{lineEnd}
 use Rattle.lines.specs.Requests.{requestOf}
-use Rattle.lines.specs.Boards.{Board, Replied, replied}
+use Rattle.lines.specs.Boards.{Board, replied}
 use Rattle.lines.specs.Texts.{linesFrom, repliedTo, means}
-use Rattle.lines.specs.Pieces.{Hearing, atStart, hears, goesOn, ending, heardInPieces}
+use Rattle.lines.specs.Places.{atStart}
+use Rattle.lines.specs.Pieces.{Hearing, hears, goesOn, closed, heardInPieces}
 use Rattle.lines.proofs.Cutting.{hears-append, heard-joined}
 use Rattle.lines.proofs.Lines.{placeOf, place-append, request-known, onward-begun, place-begun}
-
--- a hearing whose text is at its end
-abbrev closed : Hearing → Replied
-closed hearing =
-    let whole = goesOn hearing (ending (hearing .place)) in
-    record { reply = whole .replies; board = whole .board }
 
 -- what is heard of a text that goes on with a line is what is replied to the lines that they make together
 abbrev HeardAsMeant : List ℕ → Type 0
@@ -55,9 +50,9 @@ nothing-heard zero board = refl
 nothing-heard (suc pieces) board = nothing-heard pieces board
 
 -- the end of a text ends an unfinished line as a line end does
-end-heard : (hearing : Hearing) → 0 < hearing .place .digits → closed (goesOn hearing (lineEnd ∷ [])) ≡ closed hearing
+line-end-heard : (hearing : Hearing) → 0 < hearing .place .digits → closed (goesOn hearing (lineEnd ∷ [])) ≡ closed hearing
 unfolding hears
-end-heard hearing begun = simp (ne-eqb (hearing .place .digits) 0 (omega arith), append-nil)
+line-end-heard hearing begun = simp (ne-eqb (hearing .place .digits) 0 (omega arith), append-nil)
 
 -- the last line may have an end or not, if it is not empty
 pub ended-line : (front : List ℕ) (b : ℕ) (board : Board) → (b ≡ lineEnd → ⊥) → means ((front ++ b ∷ []) ++ lineEnd ∷ []) board ≡ means (front ++ b ∷ []) board
@@ -66,5 +61,5 @@ ended-line front b board other =
     let text = front ++ b ∷ [] in
     let begun : 0 < hears atStart board text .place .digits = rw (hears-append atStart board front (b ∷ []), ne-eqb b lineEnd other, hears) (onward-begun _ b) in
     sym (whole-text (text ++ lineEnd ∷ []) board)
-    ∙ rw (hears-append atStart board text (lineEnd ∷ [])) (end-heard (hears atStart board text) begun)
+    ∙ rw (hears-append atStart board text (lineEnd ∷ [])) (line-end-heard (hears atStart board text) begun)
     ∙ whole-text text board

@@ -1,15 +1,15 @@
 -- What a session says and leaves is what its text means, wherever it was cut.
-use Prim.Native.Nat.{ℕ, _*_, _≤_, min}
+use Prim.Native.Nat.{ℕ, _≤_, min}
 use mathlib.Core.Path.{_≡_, refl, sym, ap, _∙_}
-use mathlib.Core.List.{List, [], _∷_, _++_}
+use mathlib.Core.List.{List, _++_}
 use native.Mathlib.Omega.{arith}
 use lib.ListN.{length, take, drop}
 use lib.Seq.{take-at}
-use Rattle.lines.specs.Boards.{Board, Replied}
+use Rattle.lines.specs.Boards.{Board, lending, longestReply}
 use Rattle.lines.specs.Texts.{means}
-use Rattle.lines.specs.Pieces.{longestReply, atStart, Hearing, hears, goesOn, ending, boardOf, answerable, heardInPieces, Hears}
+use Rattle.lines.specs.Places.{atStart}
+use Rattle.lines.specs.Pieces.{Hearing, hears, goesOn, unheard, ending, closed, boardOf, answerable, HearsAll}
 use Rattle.lines.specs.Sessions.{Session, begun, next}
-use Rattle.lines.specs.Inside.Answering.{board}
 use Rattle.lines.specs.declared.Place.{Place}
 use Rattle.lines.specs.declared.Heard.{Heard}
 use Rattle.lines.proofs.Cutting.{hears-append}
@@ -17,47 +17,46 @@ use Rattle.lines.proofs.Hearing.{heard-whole, ending-short}
 use Rattle.lines.proofs.Meaning.{whole-text}
 
 -- what a call says is its replies
-said-is : {place : Place} {on : Board} {bytes room words text : List ℕ} {heard : Heard} → Hears place on bytes room heard words text
+said-is : {place : Place} {on : Board} {bytes room words text : List ℕ} {heard : Heard} → HearsAll place on bytes room heard words text
     → take (heard .written) text ≡ hears place on bytes .replies
 said-is {place} {on} {bytes} {room} {words} {text} {heard} h =
     ap (take (heard .written)) (h .says)
     ∙ take-at (hears place on bytes .replies) (drop (length (hears place on bytes .replies)) room) (heard .written) (sym (h .counts))
 
 -- the board that the next call finds is the one that this call left
-board-is : {place : Place} {on : Board} {bytes room words text : List ℕ} {heard : Heard} → Hears place on bytes room heard words text
+board-is : {place : Place} {on : Board} {bytes room words text : List ℕ} {heard : Heard} → HearsAll place on bytes room heard words text
     → boardOf words (heard .lent) ≡ hears place on bytes .board
 board-is {place} {on} {bytes} {room} {words} {text} {heard} h =
     let all : min (heard .lent) (length words) ≡ heard .lent = omega (arith, h .lendable) in
-    ap (board words) (all ∙ h .lends) ∙ ap (λ (a : List ℕ). board a (hears place on bytes .board .lent)) (h .stores)
+    ap (lending words) (all ∙ h .lends) ∙ ap (λ (a : List ℕ). lending a (hears place on bytes .board .lent)) (h .stores)
 
 -- a call that hears these bytes goes on as they do
-call-goes-on : (said : List ℕ) (place : Place) (on : Board) (bytes room words text : List ℕ) (heard : Heard) → Hears place on bytes room heard words text
+call-goes-on : (said : List ℕ) (place : Place) (on : Board) (bytes room words text : List ℕ) (heard : Heard) → HearsAll place on bytes room heard words text
     → goesOn (record { replies = said; place = place; board = on }) bytes
     ≡ record { replies = said ++ take (heard .written) text; place = heard .place; board = boardOf words (heard .lent) }
 call-goes-on said place on bytes room words text heard h = rw (said-is h, h .places, board-is h) refl
 
 -- so far, the text has been heard
 pub session-heard : {start : List ℕ} {place : Place} {lent : ℕ} {words said text : List ℕ} → Session start place lent words said text
-    → hears atStart (board start 0) text ≡ record { replies = said; place = place; board = boardOf words lent }
+    → hears atStart (lending start 0) text ≡ record { replies = said; place = place; board = boardOf words lent }
 unfolding hears
 session-heard {start} begun =
     let none : min 0 (length start) ≡ 0 = omega arith in
-    sym (ap (λ (k : ℕ). record { replies = []; place = atStart; board = board start k }) none)
-session-heard {start} (next {place} {lent} {words} {said} {text} session piece room heard words′ text′ roomy h) =
-    hears-append atStart (board start 0) text piece
-    ∙ ap (λ (hearing : Hearing). goesOn hearing piece) (session-heard session)
-    ∙ call-goes-on said place (boardOf words lent) piece room words′ text′ heard (rw (heard-whole piece room roomy) at h)
+    sym (ap (λ (n : ℕ). unheard (lending start n)) none)
+session-heard {start} (next {place} {lent} {words} {said} {text} session piece room heard words′ text′ h) =
+    hears-append atStart (lending start 0) text (answerable piece room)
+    ∙ ap (λ (hearing : Hearing). goesOn hearing (answerable piece room)) (session-heard session)
+    ∙ call-goes-on said place (boardOf words lent) (answerable piece room) room words′ text′ heard h
 
 -- once it is closed, a session has said, and leaves, what its text means
 pub session-means : {start : List ℕ} {place : Place} {lent : ℕ} {words said text : List ℕ} → Session start place lent words said text
     → (room : List ℕ) (heard : Heard) (words′ text′ : List ℕ) → longestReply ≤ length room
-    → Hears place (boardOf words lent) (answerable (ending place) room) room heard words′ text′
-    → record { reply = said ++ take (heard .written) text′; board = boardOf words′ (heard .lent) } ≡ means text (board start 0)
+    → HearsAll place (boardOf words lent) (answerable (ending place) room) room heard words′ text′
+    → record { reply = said ++ take (heard .written) text′; board = boardOf words′ (heard .lent) } ≡ means text (lending start 0)
 session-means {start} {place} {lent} {words} {said} {text} session room heard words′ text′ roomy h =
     let whole = heard-whole (ending place) room (omega (arith, roomy, ending-short place)) in
-    let closed : Hearing → Replied = λ hearing. record { reply = goesOn hearing (ending (hearing .place)) .replies; board = goesOn hearing (ending (hearing .place)) .board } in
     sym
-    (sym (whole-text text (board start 0))
+    (sym (whole-text text (lending start 0))
     ∙ ap closed (session-heard session)
     ∙ ap (λ (hearing : Hearing). record { reply = hearing .replies; board = hearing .board })
     (call-goes-on said place (boardOf words lent) (ending place) room words′ text′ heard (rw whole at h)))

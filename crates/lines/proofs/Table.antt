@@ -8,12 +8,13 @@ use Rattle.arena.specs.Spots.{lowest}
 use Rattle.arena.specs.Rules.{joined, copied}
 use Rattle.arena.specs.Calls.{startOn, allocBy, freeOn, reallocOn, reportOn}
 use Rattle.lines.specs.Digits.{worth, glyph}
-use Rattle.lines.specs.Boards.{replyText, replied}
-use Rattle.lines.specs.Pieces.{onward, requestAt, hears}
+use Rattle.lines.specs.Boards.{replyText, outcomeOf, replied}
+use Rattle.lines.specs.Places.{onward, requestAt}
+use Rattle.lines.specs.Pieces.{hears}
 use Rattle.lines.specs.Table.{Table}
 
 pub table : Table
-unfolding startOn allocBy freeOn reallocOn reportOn arenaGate requestGate sound chunksOf walked walkFrom walk meet lowest joined copied written write header worth glyph replyText replied onward requestAt hears
+unfolding startOn allocBy freeOn reallocOn reportOn arenaGate requestGate sound chunksOf walked walkFrom walk meet lowest joined copied written write header worth glyph replyText outcomeOf replied onward requestAt hears
 table = (
   (refl, (refl, (refl, (refl, (refl, (refl, (refl, (refl, (refl, (refl, (refl, tt))))))))))),
   λ (x y : ℕ). ((refl, (refl, (refl, (refl, tt)))), (refl, refl)),

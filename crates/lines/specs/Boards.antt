@@ -1,5 +1,5 @@
--- The board, and what it answers to a request.
-use Prim.Native.Nat.{ℕ}
+-- The board, and what it replies to a request.
+use Prim.Native.Nat.{ℕ, _+_, _*_}
 use mathlib.Core.Bool.{cond}
 use mathlib.Core.List.{List, [], _∷_, _++_}
 use lib.ListN.{length, take, drop}
@@ -8,6 +8,7 @@ use Rattle.layout.specs.declared.Reason.the-variants.{Frame}
 use Rattle.arena.specs.Answers.{Answer, refusal, Outcome}
 use Rattle.arena.specs.Calls.{startOn, allocOn, freeOn, reallocOn, reportOn}
 use Rattle.lines.specs.Digits.{lineEnd, twoDigits, fourDigits}
+use Rattle.lines.specs.Requests.{kindOf}
 use Rattle.lines.specs.declared.request.Request.{Request}
 use Rattle.lines.specs.declared.request.Request.the-variants.{Start, Alloc, Free, Realloc, Report, Malformed}
 
@@ -16,10 +17,10 @@ pub record Board : Type 0 where
   pub words : List ℕ
   pub lent : ℕ
 
--- a reply's text, and the board after it
-pub record Replied : Type 0 where
-  pub reply : List ℕ
-  pub board : Board
+abbrev pub lending : List ℕ → ℕ → Board
+lending words lent = record { words = words; lent = lent }
+
+-- ---- a reply's text
 
 abbrev pub fieldsText : List ℕ → List ℕ
 fieldsText [] = []
@@ -29,34 +30,56 @@ fieldsText (v ∷ vs) = fourDigits v ++ fieldsText vs
 unfoldable pub replyText : ℕ → Answer → List ℕ
 replyText kind answer = twoDigits kind ++ (twoDigits (answer .code) ++ (fieldsText (answer .values) ++ lineEnd ∷ []))
 
--- the board with other words in its first `n`
-abbrev pub withWords : Board → ℕ → List ℕ → Board
-withWords board n a = record { words = a ++ drop n (board .words); lent = n }
+-- its bytes, for so many fields
+abbrev pub replyLength : ℕ → ℕ
+replyLength fields = 5 + fields * 4
 
--- a call on the lent words
-abbrev pub onLent : ℕ → (List ℕ → Outcome) → Board → Replied
-onLent kind call board =
-    let outcome = call (take (board .lent) (board .words)) in
-    record { reply = replyText kind (outcome .answer); board = withWords board (board .lent) (outcome .words) }
+-- the longest reply is that of a report, with four fields
+abbrev pub longestReply : ℕ
+longestReply = replyLength 4
 
--- the words that are lent for a start with `n`: none where the buffer has not as many
-abbrev pub lentFor : ℕ → List ℕ → List ℕ
-lentFor n words = cond (leb n (length words)) (take n words) []
+-- ---- what a request comes to
 
--- a start lends the first `n` words from now on; one that is refused changes nothing
-abbrev pub onStart : ℕ → Board → Replied
-onStart n board =
-    let outcome = startOn (lentFor n (board .words)) in
-    record {
-      reply = replyText 1 (outcome .answer);
-      board = cond (eqb (outcome .answer .code) 0) (withWords board n (outcome .words)) board;
-    }
+-- the words that a board lends
+abbrev pub lentOf : Board → List ℕ
+lentOf board = take (board .lent) (board .words)
 
--- what the board answers to a request
+-- the words that it lends for a start with `n`: none where it has not as many
+abbrev pub lentFor : ℕ → Board → List ℕ
+lentFor n board = cond (leb n (length (board .words))) (take n (board .words)) []
+
+-- a request's call on the lent words: what it answers, and these words afterwards. A malformed line makes no call
+unfoldable pub outcomeOf : Request → Board → Outcome
+outcomeOf (Start n) board = startOn (lentFor n board)
+outcomeOf (Alloc n) board = allocOn (lentOf board) n
+outcomeOf (Free b) board = freeOn (lentOf board) b
+outcomeOf (Realloc b n) board = reallocOn (lentOf board) b n
+outcomeOf Report board = reportOn (lentOf board)
+outcomeOf Malformed board = record { answer = refusal 0 Frame; words = lentOf board }
+
+-- how many words are lent once a request is done: a start's number, from then on
+abbrev pub lentAfter : Request → Board → ℕ
+lentAfter (Start n) board = n
+lentAfter (Alloc n) board = board .lent
+lentAfter (Free b) board = board .lent
+lentAfter (Realloc b n) board = board .lent
+lentAfter Report board = board .lent
+lentAfter Malformed board = board .lent
+
+-- the board that lends its first `n` words, which are now `a`
+abbrev pub withLent : Board → ℕ → List ℕ → Board
+withLent board n a = lending (a ++ drop n (board .words)) n
+
+-- a reply's text, and the board after it
+pub record Replied : Type 0 where
+  pub reply : List ℕ
+  pub board : Board
+
+-- what the board replies to a request; one that is refused leaves it as it was, a start too
 unfoldable pub replied : Request → Board → Replied
-replied (Start n) board = onStart n board
-replied (Alloc n) board = onLent 2 (λ a. allocOn a n) board
-replied (Free b) board = onLent 3 (λ a. freeOn a b) board
-replied (Realloc b n) board = onLent 4 (λ a. reallocOn a b n) board
-replied Report board = onLent 5 reportOn board
-replied Malformed board = record { reply = replyText 0 (refusal 0 Frame); board = board }
+replied request board =
+    let outcome = outcomeOf request board in
+    record {
+      reply = replyText (kindOf request) (outcome .answer);
+      board = cond (eqb (outcome .answer .code) 0) (withLent board (lentAfter request board) (outcome .words)) board;
+    }

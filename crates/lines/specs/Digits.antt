@@ -8,12 +8,13 @@ use lib.Dec.{leb, ltb}
 abbrev pub lineEnd : ℕ
 lineEnd = 10
 
+-- a byte is one of those from `first` to `last`
 abbrev pub between : ℕ → ℕ → ℕ → Bool
 between first last b = leb first b && leb b last
 
--- what a byte is worth as a digit, 16 where it is none: 0 to 9, A to F, a to f
+-- what a byte is worth as a digit, 16 where it is none: bytes 48 to 57 are the digits 0 to 9, 65 to 70 are A to F, 97 to 102 are a to f
 unfoldable pub worth : ℕ → ℕ
-worth b = cond (between 48 57 b) (b - 48) (cond (between 65 70 b) (b - 55) (cond (between 97 102 b) (b - 87) 16))
+worth b = cond (between 48 57 b) (b - 48) (cond (between 65 70 b) (b - 65 + 10) (cond (between 97 102 b) (b - 97 + 10) 16))
 
 abbrev pub isDigit : ℕ → Bool
 isDigit b = ltb (worth b) 16
@@ -30,11 +31,11 @@ numberFrom sum (b ∷ bs) = numberFrom (sum * 16 + worth b) bs
 abbrev pub numberOf : List ℕ → ℕ
 numberOf bs = numberFrom 0 bs
 
--- the byte of a digit: 0 to 9, A to F
+-- the byte of a digit: 0 to 9, or A to F
 unfoldable pub glyph : ℕ → ℕ
-glyph d = cond (ltb d 10) (48 + d) (55 + d)
+glyph d = cond (ltb d 10) (48 + d) (65 + (d - 10))
 
--- a number in two digits, and in four
+-- a number's last two digits, and its last four
 abbrev pub twoDigits : ℕ → List ℕ
 twoDigits v = glyph (v / 16 % 16) ∷ glyph (v % 16) ∷ []
 

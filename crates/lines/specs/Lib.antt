@@ -2,6 +2,7 @@ pub mod Digits
 pub mod Requests
 pub mod Boards
 pub mod Texts
+pub mod Places
 pub mod Pieces
 pub mod Sessions
 pub mod Table

@@ -1,6 +1,6 @@
 -- Document 01's whole run and its move, in its own letters: what is asked of the functions that the program's contracts cite.
 use Prim.Native.Nat.{ℕ}
-use Prim.Native.Char.{Char, code}
+use Prim.Native.Char.{code}
 use Prim.Native.String.{String, [] as noText, _∷_ as _before_}
 use mathlib.Core.Path.{_≡_}
 use mathlib.Core.List.{List, [], _∷_, _++_}
@@ -9,8 +9,9 @@ use Rattle.layout.specs.Numbers.{greatestLength}
 use Rattle.layout.specs.Chunks.{free, live}
 use Rattle.layout.specs.Walk.{chunksOf}
 use Rattle.lines.specs.Digits.{lineEnd}
-use Rattle.lines.specs.Boards.{Board}
-use Rattle.lines.specs.Pieces.{atStart, Hearing, hears}
+use Rattle.lines.specs.Boards.{Board, lending, lentOf}
+use Rattle.lines.specs.Places.{atStart}
+use Rattle.lines.specs.Pieces.{Hearing, hears}
 
 -- a text's bytes
 abbrev pub bytesOf : String → List ℕ
@@ -25,20 +26,20 @@ lineOf text = bytesOf text ++ lineEnd ∷ []
 abbrev pub asked : Board → String → Hearing
 asked board text = hears atStart board (lineOf text)
 
--- a row of the table: what is asked, and what is replied. A starred row is a promise; a plain one is a step on the way
+-- a row of the table: a starred one is asked, and is replied to so; a plain one is asked on the way
 pub data Row : Type 0 where
   starred : String → String → Row
-  plain : String → String → Row
+  plain : String → Row
 
 -- every starred row is replied to as it says, after all rows above it
 abbrev pub Replies : Board → List Row → Type 0
 Replies board [] = Unit {0}
 Replies board (starred text reply ∷ rows) = (asked board text .replies ≡ lineOf reply) × Replies (asked board text .board) rows
-Replies board (plain text reply ∷ rows) = Replies (asked board text .board) rows
+Replies board (plain text ∷ rows) = Replies (asked board text .board) rows
 
 -- the board before the first line: all words zero, and none lent
 abbrev pub fresh : Board
-fresh = record { words = replicate greatestLength 0; lent = 0 }
+fresh = lending (replicate greatestLength 0) 0
 
 abbrev pub wholeRun : List Row
 wholeRun =
@@ -49,21 +50,21 @@ wholeRun =
     ∷ starred "05" "05000006000400030001"
     ∷ starred "030016" "0300"
     ∷ starred "030016" "0303"
-    ∷ plain "020004" "020000040004"
+    ∷ plain "020004"
     ∷ starred "04000A000D" "0400000A000E"
-    ∷ plain "05" "05000000000000030000"
+    ∷ plain "05"
     ∷ starred "020001" "020600000000"
-    ∷ plain "04001A0007" "040600000000"
-    ∷ plain "03000A" "0300"
+    ∷ plain "04001A0007"
+    ∷ plain "03000A"
     ∷ starred "02000B" "0200000A000E"
     ∷ starred "02001D" "020500000000"
-    ∷ plain "020000" "020400000000"
-    ∷ plain "0Z" "0007"
+    ∷ plain "020000"
+    ∷ plain "0Z"
     ∷ []
 
--- a board whose words 26 and 27 are `x` and `y`, so that the copy of a move can be seen
+-- the same, but that words 26 and 27 are `x` and `y`, so that the copy of a move can be seen
 abbrev pub marked : ℕ → ℕ → Board
-marked x y = record { words = replicate 26 0 ++ x ∷ y ∷ replicate 16356 0; lent = 0 }
+marked x y = lending (take 26 (fresh .words) ++ x ∷ y ∷ drop 28 (fresh .words)) 0
 
 -- N = 32, alloc 2 gives 30, alloc 2 gives 26, realloc 26 to 6 gives block 18 with 6 granted
 abbrev pub move : List Row
@@ -78,13 +79,13 @@ move =
 abbrev pub after : Board → List Row → Board
 after board [] = board
 after board (starred text reply ∷ rows) = after (asked board text .board) rows
-after board (plain text reply ∷ rows) = after (asked board text .board) rows
+after board (plain text ∷ rows) = after (asked board text .board) rows
 
 -- words 18 and 19 are those of 26 and 27; free chunks are 2 (size 14) and 24 (size 4)
 abbrev pub Moved : ℕ → ℕ → Board → Type 0
 Moved x y board =
     (take 2 (drop 18 (board .words)) ≡ x ∷ y ∷ [])
-    × (chunksOf (take 32 (board .words)) ≡ free 14 ∷ live 8 ∷ free 4 ∷ live 4 ∷ [])
+    × (chunksOf (lentOf board) ≡ free 14 ∷ live 8 ∷ free 4 ∷ live 4 ∷ [])
 
 -- the statement: the starred rows, each after all rows above it, and the move, whatever words 26 and 27 are
 abbrev pub Table : Type 0

@@ -6,13 +6,6 @@ ghost use Rattle.lines.specs.Digits.{between, twoDigits, fourDigits};
 ghost use Rattle.lines.specs.Digits.{worth as worthOf, glyph as glyphOf};
 ghost use Rattle.lines.specs.Inside.Answering.{Puts};
 
-// A byte as a number.
-fn wide(b: u8) -> u64
-    ensures { λ r. ⌜ r ≡ b ⌝ }
-{
-    b as u64
-}
-
 // Whether a byte is one of those from `first` to `last`.
 fn is_between(first: u8, last: u8, b: u8) -> bool
     ensures { λ r. ⌜ r ≡ between first last b ⌝ }
@@ -25,13 +18,13 @@ pub(crate) fn worth(b: u8) -> u64
     ensures { λ r. ⌜ r ≡ worthOf b ⌝ }
 {
     if is_between(b'0', b'9', b) {
-        return wide(b) - 48;
+        return (b - b'0') as u64;
     }
     if is_between(b'A', b'F', b) {
-        return wide(b) - 55;
+        return (b - b'A') as u64 + 10;
     }
     if is_between(b'a', b'f', b) {
-        return wide(b) - 87;
+        return (b - b'a') as u64 + 10;
     }
     16
 }
@@ -42,9 +35,9 @@ fn glyph(d: u32) -> u8
     ensures { λ r. ⌜ r ≡ glyphOf d ⌝ }
 {
     if d < 10 {
-        return (48 + d) as u8;
+        return b'0' + d as u8;
     }
-    (55 + d) as u8
+    b'A' + (d - 10) as u8
 }
 
 // Writes a number in two digits.

@@ -5,24 +5,23 @@ mod reply;
 mod request;
 
 ghost use mathlib.Core.Path.{_≡_};
-ghost use Prim.Native.Nat.{_+_, _*_, _/_, _≤_, min};
-ghost use lib.ListN.{length};
-ghost use Rattle.lines.specs.Pieces.{atStart, answerable, ending, boardOf, Hears};
-ghost use Rattle.lines.specs.Inside.Answering.{Ready, HearsByte, board};
+ghost use Prim.Native.Nat.{min};
+ghost use Rattle.lines.specs.Boards.{lending};
+ghost use Rattle.lines.specs.Places.{atStart};
+ghost use Rattle.lines.specs.Pieces.{nothingHeard, ending, boardOf, answerable, HearsAll};
+ghost use Rattle.lines.specs.Inside.Answering.{Ready, HearsByte};
 
-// The most digits that a request has.
-pub const MOST_DIGITS: usize = 10;
-// The longest reply, in bytes.
+// The longest reply, that of a report, in bytes.
 pub const LONGEST_REPLY: usize = 21;
 
-// How far an unfinished line has come: its digits are counted, and the number that they make is kept. One that can be no request
+// How far an unfinished line has come: its digits are counted, and the number that they make is kept. A line that can be no request
 // any more has a digit too many.
 pub struct Place {
     pub digits: usize,
     pub number: u64,
 }
 
-// What came of a piece: the place after it, the words that are lent, the bytes of it that were taken, and the bytes of reply that were written.
+// What came of a piece: the place after it, how many words are lent, how many bytes of it were taken, and how many bytes of reply were written.
 pub struct Heard {
     pub place: Place,
     pub lent: usize,
@@ -30,13 +29,25 @@ pub struct Heard {
     pub written: usize,
 }
 
-// The place at the start of a text.
-pub fn at_start() -> Place
+// The place at the start of a line.
+fn at_start() -> Place
     ensures { λ r. ⌜ r ≡ atStart ⌝ }
 {
     Place {
         digits: 0,
         number: 0,
+    }
+}
+
+// The beginning of a text: nothing is heard, and no words are lent.
+pub fn nothing_heard() -> Heard
+    ensures { λ r. ⌜ r ≡ nothingHeard ⌝ }
+{
+    Heard {
+        place: at_start(),
+        lent: 0,
+        taken: 0,
+        written: 0,
     }
 }
 
@@ -50,65 +61,58 @@ fn smaller(x: usize, y: usize) -> usize
     y
 }
 
-// How far a piece has been heard: the place, the words that are lent, the bytes of reply that were written.
-struct Course {
-    place: Place,
-    lent: usize,
-    written: usize,
-}
-
 // Hears one byte: the end of a line, which is answered, or one more byte of it.
-fn hear_byte(course: Course, b: u8, words: &mut [u32], out: &mut [u8]) -> Course
-    requires { ⌜ Ready (now words) (course .lent) (now out) (course .written) ⌝ }
-    ensures { λ r. ⌜ HearsByte (course .place) (board (now (words .entry)) (course .lent)) b (r .place) (now (words .exit)) (r .lent) (course .written) (now (out .entry)) (r .written) (now (out .exit)) ⌝ }
+fn hear_byte(heard: Heard, b: u8, words: &mut [u32], out: &mut [u8]) -> Heard
+    requires { ⌜ Ready (now words) (heard .lent) (now out) (heard .written) ⌝ }
+    ensures { λ r. ⌜ HearsByte (heard .place) (lending (now (words .entry)) (heard .lent)) b (r .place) (now (words .exit)) (r .lent) (heard .written) (now (out .entry)) (r .written) (now (out .exit)) ⌝ }
 {
-    let place = course.place;
+    let place = heard.place;
     if b == b'\n' {
         let request = request::request_at(place);
-        let said = answer::answer(request, words, course.lent, out, course.written);
-        return Course {
+        let said = answer::answer(request, words, heard.lent, out, heard.written);
+        return Heard {
             place: at_start(),
             lent: said.lent,
+            taken: heard.taken,
             written: said.end,
         };
     }
-    Course {
+    Heard {
         place: request::onward(place, b),
-        lent: course.lent,
-        written: course.written,
+        lent: heard.lent,
+        taken: heard.taken,
+        written: heard.written,
     }
 }
 
-// Hears a piece of a text, as many bytes of it as `out` has room to answer, and writes the replies at the start of `out`.
-pub fn hear(place: Place, lent: usize, words: &mut [u32], piece: &[u8], out: &mut [u8]) -> Heard
-    ensures { λ r. ⌜ Hears place (boardOf (now (words .entry)) lent) (answerable (now (piece .entry)) (now (out .entry))) (now (out .entry)) r (now (words .exit)) (now (out .exit)) ⌝ }
+// Goes on from `last` with a piece of the text: hears as many bytes of it as `out` has room to answer, and writes the replies at the start of `out`.
+pub fn hear(last: Heard, words: &mut [u32], piece: &[u8], out: &mut [u8]) -> Heard
+    ensures { λ r. ⌜ HearsAll (last .place) (boardOf (now (words .entry)) (last .lent)) (answerable (now (piece .entry)) (now (out .entry))) (now (out .entry)) r (now (words .exit)) (now (out .exit)) ⌝ }
 {
     let most = smaller(piece.len(), out.len() / LONGEST_REPLY);
-    let mut course = Course {
+    let place = last.place;
+    let mut heard = Heard {
         place,
-        lent: smaller(lent, words.len()),
+        lent: smaller(last.lent, words.len()),
+        taken: 0,
         written: 0,
     };
     let mut taken = 0;
     while taken < most {
-        course = hear_byte(course, piece[taken], words, out);
+        heard = hear_byte(heard, piece[taken], words, out);
         taken += 1;
     }
-    let after = course.place;
-    Heard {
-        place: after,
-        lent: course.lent,
-        taken,
-        written: course.written,
-    }
+    heard.taken = taken;
+    heard
 }
 
-// Hears the end of a text: a line that has no end is answered if something has come of it.
-pub fn close(place: Place, lent: usize, words: &mut [u32], out: &mut [u8]) -> Heard
-    ensures { λ r. ⌜ Hears place (boardOf (now (words .entry)) lent) (answerable (ending place) (now (out .entry))) (now (out .entry)) r (now (words .exit)) (now (out .exit)) ⌝ }
+// Goes on from `last` with the end of the text: a line that has no end is answered if something has come of it.
+pub fn close(last: Heard, words: &mut [u32], out: &mut [u8]) -> Heard
+    ensures { λ r. ⌜ HearsAll (last .place) (boardOf (now (words .entry)) (last .lent)) (answerable (ending (last .place)) (now (out .entry))) (now (out .entry)) r (now (words .exit)) (now (out .exit)) ⌝ }
 {
+    let place = last.place;
     if place.digits == 0 {
-        return hear(place, lent, words, &[], out);
+        return hear(last, words, &[], out);
     }
-    hear(place, lent, words, b"\n", out)
+    hear(last, words, b"\n", out)
 }

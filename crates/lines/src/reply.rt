@@ -3,11 +3,10 @@ use super::digits;
 use arena::Finish;
 use arena::Granted;
 use arena::Reported;
-ghost use mathlib.Core.Path.{_≡_};
 ghost use Prim.Native.Nat.{_+_, _*_, _≤_};
 ghost use lib.ListN.{length};
 ghost use Rattle.arena.specs.Answers.{finishNumbers, grantedNumbers, reportedNumbers};
-ghost use Rattle.lines.specs.Boards.{replyText, fieldsText};
+ghost use Rattle.lines.specs.Boards.{replyText, replyLength, fieldsText};
 ghost use Rattle.lines.specs.Inside.Answering.{Puts, numbers};
 
 // Writes fields in four digits each, and gives the place behind them.
@@ -25,7 +24,7 @@ fn put_fields(out: &mut [u8], at: usize, values: &[u32]) -> usize
 
 // Writes a reply, and gives the place behind it.
 pub(crate) fn put_reply(out: &mut [u8], at: usize, kind: u32, code: u32, values: &[u32]) -> usize
-    requires { ⌜ at + (5 + length (now values) * 4) ≤ length (now out) ⌝ }
+    requires { ⌜ at + replyLength (length (now values)) ≤ length (now out) ⌝ }
     ensures { λ r. ⌜ Puts at (replyText kind (numbers code (now (values .entry)))) (now (out .entry)) r (now (out .exit)) ⌝ }
 {
     digits::put_two(out, at, kind);
@@ -37,7 +36,7 @@ pub(crate) fn put_reply(out: &mut [u8], at: usize, kind: u32, code: u32, values:
 
 // The reply of a call that gives no numbers.
 pub(crate) fn put_finish(out: &mut [u8], at: usize, kind: u32, answer: Finish) -> usize
-    requires { ⌜ at + 5 ≤ length (now out) ⌝ }
+    requires { ⌜ at + replyLength 0 ≤ length (now out) ⌝ }
     ensures { λ r. ⌜ Puts at (replyText kind (finishNumbers answer)) (now (out .entry)) r (now (out .exit)) ⌝ }
 {
     match answer {
@@ -48,7 +47,7 @@ pub(crate) fn put_finish(out: &mut [u8], at: usize, kind: u32, answer: Finish) -
 
 // The reply of a call that grants.
 pub(crate) fn put_granted(out: &mut [u8], at: usize, kind: u32, answer: Granted) -> usize
-    requires { ⌜ at + 13 ≤ length (now out) ⌝ }
+    requires { ⌜ at + replyLength 2 ≤ length (now out) ⌝ }
     ensures { λ r. ⌜ Puts at (replyText kind (grantedNumbers answer)) (now (out .entry)) r (now (out .exit)) ⌝ }
 {
     match answer {
@@ -59,7 +58,7 @@ pub(crate) fn put_granted(out: &mut [u8], at: usize, kind: u32, answer: Granted)
 
 // The reply of a report.
 pub(crate) fn put_reported(out: &mut [u8], at: usize, kind: u32, answer: Reported) -> usize
-    requires { ⌜ at + 21 ≤ length (now out) ⌝ }
+    requires { ⌜ at + replyLength 4 ≤ length (now out) ⌝ }
     ensures { λ r. ⌜ Puts at (replyText kind (reportedNumbers answer)) (now (out .entry)) r (now (out .exit)) ⌝ }
 {
     match answer {

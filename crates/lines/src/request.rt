@@ -4,14 +4,20 @@ use super::digits;
 ghost use mathlib.Core.Path.{_≡_};
 ghost use mathlib.Core.Bool.{cond};
 ghost use lib.Dec.{eqb};
-ghost use Rattle.lines.specs.Pieces.{requestAt, oneField};
-ghost use Rattle.lines.specs.Pieces.{onward as onwardFrom, spoilt as spoiltPlace};
+ghost use Rattle.lines.specs.Places.{requestAt, oneField};
+ghost use Rattle.lines.specs.Places.{onward as onwardFrom, spoilt as spoiltPlace};
 ghost use Rattle.lines.specs.declared.request.Request.the-variants.{Realloc, Report, Malformed};
 
+// The digits of a line with no field, with one, and with two.
+const NO_FIELD: usize = 2;
+
+const ONE_FIELD: usize = NO_FIELD + 4;
+
+const TWO_FIELDS: usize = ONE_FIELD + 4;
 // What fits a field of four digits is below this number.
 const FIELD_VALUES: u64 = 65536;
 // What nine digits make is below this number.
-const NINE_DIGITS: u64 = 68719476736;
+const NINE_DIGIT_VALUES: u64 = FIELD_VALUES * FIELD_VALUES * 16;
 
 // A line's request.
 pub(crate) enum Request {
@@ -28,7 +34,7 @@ fn spoilt() -> Place
     ensures { λ r. ⌜ r ≡ spoiltPlace ⌝ }
 {
     Place {
-        digits: super::MOST_DIGITS + 1,
+        digits: TWO_FIELDS + 1,
         number: 0,
     }
 }
@@ -41,12 +47,12 @@ pub(crate) fn onward(place: Place, b: u8) -> Place
     if 16 <= worth {
         return spoilt();
     }
-    if super::MOST_DIGITS <= place.digits {
+    if TWO_FIELDS <= place.digits {
         return spoilt();
     }
     Place {
         digits: place.digits + 1,
-        number: (place.number % NINE_DIGITS) * 16 + worth,
+        number: (place.number % NINE_DIGIT_VALUES) * 16 + worth,
     }
 }
 
@@ -56,13 +62,13 @@ pub(crate) fn request_at(place: Place) -> Request
 {
     let rest = place.number / FIELD_VALUES;
     let last = (place.number % FIELD_VALUES) as u32;
-    if place.digits == 6 {
+    if place.digits == ONE_FIELD {
         return one_field(rest, last);
     }
-    if place.digits == 10 {
+    if place.digits == TWO_FIELDS {
         return two_fields(rest / FIELD_VALUES, (rest % FIELD_VALUES) as u32, last);
     }
-    if place.digits == 2 {
+    if place.digits == NO_FIELD {
         return no_field(place.number);
     }
     Request::Malformed

@@ -1,38 +1,38 @@
 -- `hear` meets its contract. The loop's invariant: the first `taken` bytes have been heard. The measure is how many are left.
-use Prim.Native.Nat.{ℕ, suc, _+_, _-_, _≤_, _<_, min}
-use mathlib.Core.Path.{_≡_, refl, sym, ap, _∙_}
+use Prim.Native.Nat.{ℕ, suc, _+_, _-_, _≤_, _<_}
+use mathlib.Core.Path.{_≡_, refl, ap, _∙_}
 use mathlib.Core.List.{[], _∷_, _++_}
 use native.Mathlib.Omega.{arith}
 use lib.ListN.{length, getD, take, length-take}
 use lib.Seq.{take-suc}
 use borrow.Author.Needs.{needs}
-use Rattle.lines.specs.Pieces.{longestReply, boardOf}
+use Rattle.lines.specs.Boards.{lending, longestReply}
 use Rattle.lines.proofs.Putting.{put-length}
 use Rattle.lines.proofs.Hearing.{HeardSoFar, none-heard, heard-on, answerable-taken, all-heard}
 use Rattle.lines.proofs.hear.Statement.{statement}
 use Rattle.lines.proofs.hear.Tie as tie
 
 abbrev Inv-loop : tie.InvT-loop
-Inv-loop lent words₀ piece out₀ most course₀ taken₀ words out course taken =
+Inv-loop words₀ piece out₀ most heard₀ taken₀ words out heard taken =
     (taken ≤ most) × (length words ≡ length words₀)
-    × HeardSoFar (course₀ .place) (boardOf words₀ lent) (take taken piece) out₀ (course .place) (course .lent) (course .written) words out
+    × HeardSoFar (heard₀ .place) (lending words₀ (heard₀ .lent)) (take taken piece) out₀ (heard .place) (heard .lent) (heard .written) words out
 
 abbrev μ-loop : tie.MeasureT-loop
-μ-loop lent words₀ piece out₀ most course₀ taken₀ words out course taken = most - taken
+μ-loop words₀ piece out₀ most heard₀ taken₀ words out heard taken = most - taken
 
 -- the lent text stays as long as it was
-kept : (c : tie.At-loop Inv-loop μ-loop) → length (c .loop .out) ≡ length (c .before .before .before .before .before .before .args .out .now)
+kept : (c : tie.At-loop Inv-loop μ-loop) → length (c .loop .out) ≡ length (c .before .before .before .before .before .before .before .args .out .now)
 kept c = put-length (c .loop .inv .2 .puts)
 
 -- there are as many bytes, and there is room for the reply to one more
 room-left : (c : tie.In-loop Inv-loop μ-loop)
     → let l = c .before in
-    let x = l .before .before .before .before .before .before .args in
-    (l .loop .taken < length (x .piece .now)) × (l .loop .course .written + longestReply ≤ length (l .loop .out))
+    let x = l .before .before .before .before .before .before .before .args in
+    (l .loop .taken < length (x .piece .now)) × (l .loop .heard .written + longestReply ≤ length (l .loop .out))
 room-left c =
     let l = c .before in
-    let x = l .before .before .before .before .before .before .args in
-    let most = l .before .before .smaller .ensures in
+    let x = l .before .before .before .before .before .before .before .args in
+    let most = l .before .before .before .smaller .ensures in
     let few = l .loop .inv .2 .few in
     let count = length-take (l .loop .taken) (x .piece .now) in
     (omega (arith, most, c .loop-test .taken), omega (arith, most, few, count, kept l, c .loop-test .taken))
@@ -45,8 +45,8 @@ smaller-requires-2 c κs = search needs
 
 loop-holds : tie.Need-loop-holds Inv-loop μ-loop
 loop-holds c =
-    let x = c .before .before .before .before .before .args in
-    (omega arith, refl, rw (c .smaller2 .ensures) (none-heard (x .place) (x .words .now) (x .out .now) (min (x .lent) (length (x .words .now))) (omega arith)))
+    let x = c .before .before .before .before .before .before .args in
+    (omega arith, refl, none-heard (x .last .place) (x .words .now) (x .out .now) (c .smaller2 .result) (omega (arith, c .smaller2 .ensures)))
 
 shared-slice-read-hear-byte : tie.Need-shared-slice-read-hear-byte Inv-loop μ-loop
 shared-slice-read-hear-byte c = room-left (c .before) .0
@@ -67,26 +67,26 @@ loop-again c =
     let h = c .before .before .before .before in
     let i = h .before .before .before .before in
     let l = i .before in
-    let x = l .before .before .before .before .before .before .args in
+    let x = l .before .before .before .before .before .before .before .args in
     let next : take (l .loop .taken + 1) (x .piece .now) ≡ take (l .loop .taken) (x .piece .now) ++ getD (x .piece .now) (l .loop .taken) 0 ∷ []
     = let e : l .loop .taken + 1 ≡ suc (l .loop .taken) = omega arith in ap (λ (k : ℕ). take k (x .piece .now)) e ∙ take-suc (x .piece .now) (l .loop .taken) 0 (room-left i .0) in
     (omega (arith, i .loop-test .taken), search needs, rw next (heard-on _ _ _ _ _ _ _ _ _ _ _ _ _ _ _ (l .loop .inv .2) (h .hear-byte .ensures)))
 
 same-length : tie.Need-same-length Inv-loop μ-loop
-same-length c = c .before .before .loop .inv .1
+same-length c = c .before .loop .inv .1
 
 same-length-2 : tie.Need-same-length-2 Inv-loop μ-loop
-same-length-2 c = kept (c .before .before)
+same-length-2 c = kept (c .before)
 
 returns : tie.Need-returns Inv-loop μ-loop
 returns c =
-    let l = c .before .before in
-    let x = l .before .before .before .before .before .before .args in
-    let most = l .before .before .smaller .ensures in
-    let all : l .loop .taken ≡ l .before .before .smaller .result = omega (arith, c .before .loop-test .left, l .loop .inv .0) in
+    let l = c .before in
+    let x = l .before .before .before .before .before .before .before .args in
+    let most = l .before .before .before .smaller .ensures in
+    let all : l .loop .taken ≡ l .before .before .before .smaller .result = omega (arith, c .loop-test .left, l .loop .inv .0) in
     let bytes = answerable-taken (x .piece .now) (x .out .now) _ (all ∙ most) in
     let count = length-take (l .loop .taken) (x .piece .now) in
-    rw (← bytes)
+    rw (← bytes, ← l .before .smaller2 .ensures)
     (all-heard _ _ _ _ _ _ _ (omega (arith, count, all, most)) (omega (arith, count, all, most)) (l .loop .inv .2))
 
 pub hear-spec : {M : Type 1} → statement M

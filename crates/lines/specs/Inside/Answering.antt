@@ -5,8 +5,8 @@ use mathlib.Core.List.{List, [], _∷_}
 use lib.ListN.{length}
 use lib.Seq.{sets}
 use Rattle.arena.specs.Answers.{Answer}
-use Rattle.lines.specs.Boards.{Board, Replied}
-use Rattle.lines.specs.Pieces.{longestReply, hears}
+use Rattle.lines.specs.Boards.{Board, longestReply, Replied}
+use Rattle.lines.specs.Pieces.{hears}
 use Rattle.lines.specs.declared.Place.{Place}
 
 -- the bytes `bs` are put into the text `room` from `at` on, up to `end`
@@ -30,10 +30,6 @@ pub record Answers (to : Replied) (words : List ℕ) (lent : ℕ) (at : ℕ) (ro
 -- a code and fields as an answer
 abbrev pub numbers : ℕ → List ℕ → Answer
 numbers code values = record { code = code; values = values }
-
--- words, the first of which are lent
-abbrev pub board : List ℕ → ℕ → Board
-board words lent = record { words = words; lent = lent }
 
 -- one byte is heard
 pub record HearsByte (place : Place) (board : Board) (b : ℕ) (next : Place) (words : List ℕ) (lent : ℕ) (at : ℕ) (room : List ℕ) (end : ℕ) (text : List ℕ) : Type 0 where

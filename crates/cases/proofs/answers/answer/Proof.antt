@@ -42,8 +42,8 @@ size-requires c κs = search needs
 sized-numbers-requires : tie.Need-sized-numbers-requires
 sized-numbers-requires c κs = search needs
 
-plain-requires : tie.Need-plain-requires
-plain-requires c κs = search needs
+refused-requires : tie.Need-refused-requires
+refused-requires c κs = search needs
 
 same-length : tie.Need-same-length
 same-length c = search needs
@@ -102,7 +102,7 @@ returns-6 c =
 returns-7 : tie.Need-returns-7
 returns-7 c =
     let r = c .before .match .rest in
-    rw (unknown-call _ _ _ _ (r .0 .0 .0 .0 .0 .1) (r .0 .0 .0 .0 .1) (r .0 .0 .0 .1) (r .0 .0 .1) (r .0 .1) (r .1)) (record { answers = c .plain .ensures; leaves = refl })
+    rw (unknown-call _ _ _ _ (r .0 .0 .0 .0 .0 .1) (r .0 .0 .0 .0 .1) (r .0 .0 .0 .1) (r .0 .0 .1) (r .0 .1) (r .1)) (record { answers = c .refused .ensures; leaves = refl })
 
 pub answer-spec : {M : Type 1} → statement M
 answer-spec =
@@ -120,7 +120,7 @@ answer-spec =
     reported-numbers-requires
     size-requires
     sized-numbers-requires
-    plain-requires
+    refused-requires
     same-length
     returns
     same-length-2

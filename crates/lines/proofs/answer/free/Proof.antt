@@ -1,10 +1,12 @@
 -- `free` meets its contract: the call on the lent words, and its reply.
-use mathlib.Core.Path.{sym}
+use mathlib.Core.Path.{refl, sym}
+use lib.ListN.{take}
 use lib.Seq.{length-take-le}
 use borrow.Author.Needs.{needs}
-use Rattle.arena.specs.Calls.{freeOn}
-use Rattle.lines.specs.Boards.{replied}
-use Rattle.lines.proofs.Answering.{finish-fields, on-lent}
+use Rattle.arena.proofs.Refusing.{free-refused-unchanged}
+use Rattle.lines.specs.Boards.{outcomeOf}
+use Rattle.lines.specs.declared.request.Request.the-variants.{Free}
+use Rattle.lines.proofs.Answering.{finish-fields, lent-answered}
 use Rattle.lines.proofs.answer.free.Statement.{statement}
 use Rattle.lines.proofs.answer.free.Tie as tie
 
@@ -27,12 +29,12 @@ same-length-2 : tie.Need-same-length-2
 same-length-2 c = search needs
 
 returns : tie.Need-returns
-unfolding replied
+unfolding outcomeOf
 returns c =
     let d = c .before .before in
     let e = d .before .before .before .before in
     let x = e .before .before .before .before .args in
-    on-lent 3 (λ a. freeOn a (x .b)) (x .words .now) (x .lent) (x .at) _ _ _ _ _ (e .before .before .before .before .pre .lendable) (same-length c) (e .free .ensures) (d .put-finish .ensures) (finish-fields (e .free .result))
+    lent-answered (Free (x .b)) (x .words .now) (x .lent) (x .at) _ _ _ _ _ refl (free-refused-unchanged (take (x .lent) (x .words .now)) (x .b)) (e .before .before .before .before .pre .lendable) (same-length c) (e .free .ensures) (d .put-finish .ensures) (finish-fields (e .free .result))
 
 pub free-spec : {M : Type 1} → statement M
 free-spec =

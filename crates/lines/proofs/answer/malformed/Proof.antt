@@ -1,7 +1,6 @@
 -- `malformed` meets its contract: no call is made.
 use borrow.Author.Needs.{needs}
-use Rattle.lines.specs.Boards.{replied}
-use Rattle.lines.proofs.Answering.{no-call}
+use Rattle.lines.proofs.Answering.{malformed-answered}
 use Rattle.lines.proofs.answer.malformed.Statement.{statement}
 use Rattle.lines.proofs.answer.malformed.Tie as tie
 
@@ -18,12 +17,11 @@ same-length : tie.Need-same-length
 same-length c = search needs
 
 returns : tie.Need-returns
-unfolding replied
 returns c =
     let d = c .before .before in
     let n = d .before .before in
     let f = n .before .before .before .before in
-    no-call (f .args .words .now) (f .args .lent) (f .args .at) _ _ _ (f .pre .lendable) (rw (n .number .ensures) at (d .put-reply .ensures))
+    malformed-answered (f .args .words .now) (f .args .lent) (f .args .at) _ _ _ (f .pre .lendable) (rw (n .number .ensures) at (d .put-reply .ensures))
 
 pub malformed-spec : {M : Type 1} → statement M
 malformed-spec =

@@ -1,10 +1,12 @@
 -- `realloc` meets its contract: the call on the lent words, and its reply.
-use mathlib.Core.Path.{sym}
+use mathlib.Core.Path.{refl, sym}
+use lib.ListN.{take}
 use lib.Seq.{length-take-le}
 use borrow.Author.Needs.{needs}
-use Rattle.arena.specs.Calls.{reallocOn}
-use Rattle.lines.specs.Boards.{replied}
-use Rattle.lines.proofs.Answering.{granted-fields, on-lent}
+use Rattle.arena.proofs.Refusing.{realloc-refused-unchanged}
+use Rattle.lines.specs.Boards.{outcomeOf}
+use Rattle.lines.specs.declared.request.Request.the-variants.{Realloc}
+use Rattle.lines.proofs.Answering.{granted-fields, lent-answered}
 use Rattle.lines.proofs.answer.realloc.Statement.{statement}
 use Rattle.lines.proofs.answer.realloc.Tie as tie
 
@@ -27,12 +29,12 @@ same-length-2 : tie.Need-same-length-2
 same-length-2 c = search needs
 
 returns : tie.Need-returns
-unfolding replied
+unfolding outcomeOf
 returns c =
     let d = c .before .before in
     let e = d .before .before .before .before in
     let x = e .before .before .before .before .args in
-    on-lent 4 (λ a. reallocOn a (x .b) (x .n)) (x .words .now) (x .lent) (x .at) _ _ _ _ _ (e .before .before .before .before .pre .lendable) (same-length c) (e .realloc .ensures) (d .put-granted .ensures) (granted-fields (e .realloc .result))
+    lent-answered (Realloc (x .b) (x .n)) (x .words .now) (x .lent) (x .at) _ _ _ _ _ refl (realloc-refused-unchanged (take (x .lent) (x .words .now)) (x .b) (x .n)) (e .before .before .before .before .pre .lendable) (same-length c) (e .realloc .ensures) (d .put-granted .ensures) (granted-fields (e .realloc .result))
 
 pub realloc-spec : {M : Type 1} → statement M
 realloc-spec =

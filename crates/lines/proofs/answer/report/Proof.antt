@@ -2,8 +2,7 @@
 use mathlib.Core.Path.{sym}
 use lib.Seq.{length-take-le}
 use borrow.Author.Needs.{needs}
-use Rattle.lines.specs.Boards.{replied}
-use Rattle.lines.proofs.Answering.{reported-fields, report-read}
+use Rattle.lines.proofs.Answering.{reported-fields, report-answered}
 use Rattle.lines.proofs.answer.report.Statement.{statement}
 use Rattle.lines.proofs.answer.report.Tie as tie
 
@@ -20,12 +19,11 @@ same-length : tie.Need-same-length
 same-length c = search needs
 
 returns : tie.Need-returns
-unfolding replied
 returns c =
     let d = c .before .before in
     let e = d .before .before in
     let f = e .before .before .before .before in
-    report-read (f .args .words .now) (f .args .lent) (f .args .at) _ _ _ _ (f .pre .lendable) (e .report .ensures) (d .put-reported .ensures) (reported-fields (e .report .result))
+    report-answered (f .args .words .now) (f .args .lent) (f .args .at) _ _ _ _ (f .pre .lendable) (e .report .ensures) (d .put-reported .ensures) (reported-fields (e .report .result))
 
 pub report-spec : {M : Type 1} → statement M
 report-spec =

@@ -3,7 +3,6 @@ use mathlib.Core.Path.{sym}
 use native.Mathlib.Omega.{arith}
 use lib.Seq.{length-take-le}
 use borrow.Author.Needs.{needs}
-use Rattle.lines.specs.Boards.{replied}
 use Rattle.lines.proofs.Answering.{start-lends-none, start-lends-refused, start-lends}
 use Rattle.lines.proofs.answer.start.Statement.{statement}
 use Rattle.lines.proofs.answer.start.Tie as tie
@@ -15,7 +14,6 @@ same-length : tie.Need-same-length
 same-length c = search needs
 
 returns : tie.Need-returns
-unfolding replied
 returns c =
     let d = c .before .before in
     let f = d .before .before .before .before .before in
@@ -43,7 +41,6 @@ same-length-3 : tie.Need-same-length-3
 same-length-3 c = search needs
 
 returns-2 : tie.Need-returns-2
-unfolding replied
 returns-2 c =
     let d = c .before .before .before .before in
     let e = d .before .before .before .before in
@@ -61,7 +58,6 @@ same-length-5 : tie.Need-same-length-5
 same-length-5 c = search needs
 
 returns-3 : tie.Need-returns-3
-unfolding replied
 returns-3 c =
     let d = c .before .before .before .before in
     let e = d .before .before .before .before in

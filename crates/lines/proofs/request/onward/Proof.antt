@@ -2,7 +2,7 @@
 use mathlib.Core.Path.{_∙_}
 use borrow.Author.Needs.{needs}
 use borrow.Author.Tests.{le-ltb, lt-ltb}
-use Rattle.lines.specs.Pieces.{onward}
+use Rattle.lines.specs.Places.{onward}
 use Rattle.lines.proofs.request.onward.Statement.{statement}
 use Rattle.lines.proofs.request.onward.Tie as tie
 

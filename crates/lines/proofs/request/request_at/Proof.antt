@@ -1,8 +1,7 @@
 -- `request_at` meets its contract: the number of digits says how many fields there are, and the rest is theirs.
-use mathlib.Core.Path.{refl, _∙_}
 use borrow.Author.Needs.{needs}
 use borrow.Author.Tests.{ne-eqb}
-use Rattle.lines.specs.Pieces.{requestAt}
+use Rattle.lines.specs.Places.{requestAt}
 use Rattle.lines.proofs.request.request_at.Statement.{statement}
 use Rattle.lines.proofs.request.request_at.Tie as tie
 

@@ -1,0 +1,2 @@
+-- What a turn shows.
+pub mod Turning
