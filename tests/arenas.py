@@ -2,7 +2,7 @@
 
 from collections import namedtuple
 
-from model import LIVE_MARK, LEAST_CHUNK, FIRST_CHUNK
+from model import LIVE_MARK, LEAST_CHUNK, FIRST_CHUNK, LONGEST_ARENA
 
 # An arena's words and its chunks, each with start, size and whether it is live.
 Arena = namedtuple("Arena", "words chunks")
@@ -22,7 +22,7 @@ def some_words(random, count, length):
 def random_pieces(random, length):
     """Chunks that fill an arena of this lawful length, no two free ones side by side."""
     most = random.choice([0, 2, 5, 8, 8, 8, 8, 20, length // 8, length // 2])
-    share = random.choice([0.1, 0.4, 0.4, 0.6, 0.9])
+    share = random.choice([0.1, 0.4, 0.4, 0.6, 0.9, 1])
     pieces = []
     start = FIRST_CHUNK
     while start < length:
@@ -146,13 +146,26 @@ def wrong_order(random, arena):
         arena.words[start + 1] = after
 
 
+# Those that store all headers anew come first, so that they do not undo the others.
+ANEW = [neighbours_free, boundary_moved]
 SPOILS = [wrong_size, wrong_size, wrong_link, wrong_link, wrong_length_word, wrong_any_word, wrong_any_word,
-          neighbours_free, boundary_moved, mark_changed, wrong_order]
+          mark_changed, wrong_order]
 
 
 def spoiled_arena(random, length):
     """A sound arena with one to three things spoiled."""
     arena = sound_arena(random, length)
-    for _ in range(random.choice([1, 1, 1, 2, 3])):
-        random.choice(SPOILS)(random, arena)
+    chosen = random.choices(ANEW + SPOILS, k=random.choice([1, 1, 1, 2, 3]))
+    for spoil in sorted(chosen, key=lambda spoil: spoil not in ANEW):
+        spoil(random, arena)
     return arena
+
+
+def full_arena():
+    """An arena of the most words with the most chunks there can be, all of them live."""
+    words = [LIVE_MARK, 77, 78, LEAST_CHUNK] * (LONGEST_ARENA // LEAST_CHUNK)
+    last = LONGEST_ARENA - LEAST_CHUNK - 2
+    pieces = [Piece(start, LEAST_CHUNK, True) for start in range(FIRST_CHUNK, last, LEAST_CHUNK)]
+    pieces.append(Piece(last, LEAST_CHUNK + 2, True))
+    store_headers(words, pieces)
+    return Arena(words, pieces)

@@ -53,6 +53,19 @@ def case_bytes(case):
     return packed([case.call, case.block, case.asked, len(case.words), *case.words])
 
 
+def cases_in(text):
+    """The cases that these bytes hold, up to one that is cut short."""
+    found = []
+    at = 0
+    while at + 16 <= len(text):
+        call, block, asked, length = struct.unpack_from("<4I", text, at)
+        if at + 16 + 4 * length > len(text):
+            break
+        found.append(Case(call, block, asked, list(struct.unpack_from(f"<{length}I", text, at + 16))))
+        at += 16 + 4 * length
+    return found
+
+
 def reply_bytes(answer):
     """A reply as the program writes it."""
     fields = list(answer.fields) + [0] * (FIELDS - len(answer.fields))

@@ -1,14 +1,16 @@
 """Holds every call on random arenas, sound, spoiled and of any words, to the model: answers and all words."""
 
-import random as numbers
 from collections import Counter
+from random import Random
 
 import arenas
 import cases
 import driver
 import model
 from comparing import run_cases
+from pupil import way
 
+CALLS = 100000
 AT_ONCE = 4000
 EDGES = [6, 8, 16380, 16382, 16383, 16384, 16385, 16386, 16400]
 BIG = [0, 1, 2, 65536, 65540, 2**31 - 1, 2**31, 2**32 - 4, 2**32 - 3, 2**32 - 2, 2**32 - 1]
@@ -81,15 +83,19 @@ def case_for(random, number):
     return cases.Case(call, block_for(random, arena), asked_for(random, arena), arena.words)
 
 
+def full_cases(random):
+    """Every call on an arena with as many chunks as there can be, for the first block, the last and others."""
+    arena = arenas.full_arena()
+    for piece in [arena.chunks[0], arena.chunks[-1], *random.sample(arena.chunks, 4)]:
+        for call in cases.CALLS:
+            yield cases.Case(call, piece.start + 2, random.randint(1, 6), arena.words)
+
+
 def way_of(case, answer):
     """How a call that was done was done: its name, or by which way a realloc."""
     if case.call != cases.REALLOC:
         return cases.name_of(case.call)
-    before = model.size(case.words, case.block).fields[0]
-    block, granted = answer.fields
-    if block != case.block:
-        return "moved"
-    return "kept" if granted == before else "grown" if granted > before else "cut"
+    return way(case.block, model.size(case.words, case.block).fields[0], *answer.fields)
 
 
 def met_by(case, answer):
@@ -112,34 +118,33 @@ def unfinished(random, number):
     return kinds[number % len(kinds)]
 
 
-def check_met(met):
-    """A run that has not met every code and every way compares too little."""
+def wanted():
+    """What a run has to meet: every call with every code, every way to be done, views of words and of none."""
     codes = [(name, "code", code) for name, codes in CODES.items() for code in codes]
     ways = [(way, "free chunks", change) for way, changes in WAYS.items() for change in changes]
-    missing = [what for what in [*codes, *ways, *PARTS] if met[what] < 10]
-    if missing:
-        raise driver.Difference(f"the cases are too few or too alike: hardly met {missing}")
+    return [*codes, *ways, *PARTS]
 
 
 def compare(chosen):
     """Batches of cases, each run at once; the last line counts calls."""
-    random = numbers.Random(chosen.seed)
+    random = Random(chosen.seed)
     met = Counter()
     done = 0
     batch = 0
     while done < chosen.count or batch < 10:
         asked = [case_for(random, done + place) for place in range(min(AT_ONCE, max(chosen.count // 10, 1)))]
+        asked += full_cases(random) if batch == 0 else []
         answers = [cases.answer_to(case) for case in asked]
         run_cases(chosen.cases, asked, answers, unfinished(random, batch))
         for case, answer in zip(asked, answers):
             met.update(met_by(case, answer))
         done += len(asked)
         batch += 1
-    if chosen.count >= 20000:
-        check_met(met)
-    met_done = sum(count for what, count in met.items() if what[1:] == ("code", model.DONE))
-    return f"{done:,} calls compared with all their words; {met_done:,} of them were answered 0, the others a reason"
+    if chosen.count >= CALLS:
+        driver.check_met(met, wanted(), 10, "cases")
+    refused = sum(count for what, count in met.items() if what[1] == "code" and what[2] != model.DONE)
+    return f"{done:,} calls compared with all their words; {refused:,} of them were refused"
 
 
 if __name__ == "__main__":
-    driver.finish("damaged_arenas", compare, driver.options(__doc__, 100000, named=("cases",)))
+    driver.finish("damaged_arenas", compare, driver.options(__doc__, CALLS, named=("cases",)))

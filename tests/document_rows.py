@@ -1,9 +1,12 @@
 """Holds the programs and the model to the rows of document 01, whose values are written out here."""
 
+import os
+
 import cases
 import driver
 import lines
 import model
+import programs
 from cases import Case
 from comparing import compare_answers, compare_replies, run_cases, run_lines
 
@@ -34,6 +37,22 @@ WHOLE_RUN = """
 LENGTHS = "010004 0101 014002 0101 010006 0100 014000 0100"
 SIX_WORDS = "010006 0100 020003 020500000000 020002 020000040002 020003 020500000000"
 THE_MOVE = "010020 0100 020002 0200001E0002 020002 0200001A0002 04001A0006 040000120006 05 05000012000C00020002"
+
+
+def file_of(crate, name):
+    """What a program's own input or output file holds."""
+    with open(os.path.join(programs.ROOT, "crates", crate, name), "rb") as file:
+        return file.read()
+
+
+def check_own_files():
+    """The programs' own input and output, which the gate runs besides: the whole run, and cases as the model answers them."""
+    text, expected = line_rows(WHOLE_RUN)
+    if (file_of("board", "stdin"), file_of("board", "stdout")) != (text, expected):
+        raise driver.Difference("the own files of board are not the whole run")
+    asked = cases.cases_in(file_of("cases", "stdin"))
+    compare_answers(asked, list(map(cases.answer_to, asked)), file_of("cases", "stdout"))
+    return len(asked)
 
 
 def line_rows(table):
@@ -102,7 +121,8 @@ def compare(chosen):
     asked, answers = zip(*rows)
     compare_answers(asked, answers, b"".join(cases.reply_bytes(cases.answer_to(case)) for case in asked))
     run_cases(chosen.cases, asked, answers)
-    return f"{line_count} line rows and {len(rows)} rows with their words compared, with the model and the programs"
+    own = check_own_files()
+    return f"{line_count} line rows and {len(rows)} rows with their words compared, and {own} cases of the program's own"
 
 
 if __name__ == "__main__":

@@ -9,7 +9,6 @@ import programs
 # The seed of the gate; other seeds are for trying by hand.
 GATE_SEED = 20241
 
-
 # Where the input that shows a difference is kept.
 DIFFERENCES = os.path.join(programs.ROOT, "target", "differences")
 
@@ -28,6 +27,7 @@ def options(what, count, named=("board",)):
     parser = argparse.ArgumentParser(description=what)
     parser.add_argument("--seed", type=int, default=GATE_SEED, help="where the random numbers start")
     parser.add_argument("--count", type=int, default=count, help="how many are compared, at least")
+    parser.add_argument("--patience", type=float, default=30, help="how many seconds a reply that is due may take")
     parser.add_argument("--keep", default=DIFFERENCES, help="the folder for the input that shows a difference")
     for name in named:
         flag = "--program" if len(named) == 1 else "--program-" + name
@@ -36,6 +36,13 @@ def options(what, count, named=("board",)):
     for name in named:
         setattr(chosen, name, programs.command_for(name, getattr(chosen, name)))
     return chosen
+
+
+def check_met(met, wanted, least, what):
+    """A comparison means little where something that is wanted was hardly met."""
+    missing = [kind for kind in wanted if met[kind] < least]
+    if missing:
+        raise Difference(f"the {what} are too few or too alike: hardly met {missing}")
 
 
 def keep(folder, name, content):

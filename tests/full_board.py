@@ -1,7 +1,7 @@
 """Holds a board with the most chunks there can be, 4,095, to the model: filled, then freed in every way of joining."""
 
-import random as numbers
 from collections import Counter
+from random import Random
 
 import driver
 import lines
@@ -45,6 +45,13 @@ def fill(random, talk):
     return sorted(blocks)
 
 
+def take_largest(talk):
+    """Asks for the largest request that the report names, and gives it back: the search has to go that far."""
+    largest = int(talk.say(b"05")[8:12], 16)
+    block = int(talk.say(b"02%04X" % largest)[4:8], 16)
+    talk.say(b"03%04X" % block)
+
+
 def resize(random, talk, blocks):
     """Asks a full board for other lengths: what a block has is kept, and for more there is no room."""
     for block in random.sample(blocks, 30):
@@ -78,6 +85,7 @@ def empty(random, talk, blocks):
             freed.add(place)
             if turn % 100 == 0:
                 check_free_chunks(talk, sides)
+                take_largest(talk)
                 talk.say(b"023FFC")
         if sides[side] != len(places):
             raise driver.Difference(f"{sides[side]} of {len(places)} frees joined {side}")
@@ -86,12 +94,13 @@ def empty(random, talk, blocks):
 
 def compare(chosen):
     """As many rounds of filling and emptying as asked for; the last line says how the frees joined."""
-    random = numbers.Random(chosen.seed)
+    random = Random(chosen.seed)
     talk = Talk()
     sides = Counter()
     for _ in range(chosen.count):
         talk.say(b"014000")
         blocks = fill(random, talk)
+        talk.say(b"05")
         resize(random, talk, blocks)
         sides += empty(random, talk, blocks)
         talk.say(b"023FFC")

@@ -11,9 +11,6 @@ ROOT = os.path.dirname(os.path.dirname(os.path.abspath(__file__)))
 # A program that has not ended after this many seconds counts as stuck.
 PATIENCE = 240
 
-# A reply that is due and has not come after this many seconds will not come.
-PATIENCE_FOR_REPLY = 30
-
 
 class ProgramFailed(Exception):
     """A program that could not be run, ended badly, or did not end; what it wrote until then is kept."""
@@ -39,6 +36,7 @@ class Running:
             command, stdin=subprocess.PIPE, stdout=subprocess.PIPE, stderr=self.complaints, bufsize=0
         )
         self.output = bytearray()
+        self.ended = False
         self.grown = threading.Condition()
         self.drain = threading.Thread(target=self._drain, daemon=True)
         self.drain.start()
@@ -51,6 +49,7 @@ class Running:
             piece = os.read(self.process.stdout.fileno(), 65536)
             with self.grown:
                 self.output += piece
+                self.ended = not piece
                 self.grown.notify_all()
             if not piece:
                 return
@@ -65,21 +64,25 @@ class Running:
             return False
         return True
 
-    def wait_for(self, count):
-        """Waits until so many bytes have been written; false when they do not come."""
+    def wait_for(self, count, patience):
+        """Waits so many seconds for so many bytes to have been written; false when they do not come."""
         with self.grown:
-            return self.grown.wait_for(lambda: len(self.output) >= count, timeout=PATIENCE_FOR_REPLY)
+            self.grown.wait_for(lambda: len(self.output) >= count or self.ended, timeout=patience)
+            return len(self.output) >= count
 
     def end(self):
         """Ends the input and gives all that the program wrote."""
         self.process.stdin.close()
         status = self.process.wait()
+        stuck = not self.guard.is_alive()
         self.guard.cancel()
         self.drain.join()
         self.process.stdout.close()
         self.complaints.seek(0)
         said = self.complaints.read().decode("utf-8", "replace").strip()
         self.complaints.close()
+        if stuck:
+            raise ProgramFailed(f"the program did not end within {PATIENCE} seconds", self.output)
         if status != 0:
             raise ProgramFailed(f"the program ended with status {status}; it said: {said or 'nothing'}", self.output)
         return bytes(self.output)

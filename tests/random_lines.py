@@ -1,7 +1,7 @@
 """Holds long random runs of lines through the program `board` to the model, handed over in pieces of any size."""
 
-import random as numbers
 from collections import Counter
+from random import Random
 
 import driver
 import lines
@@ -10,6 +10,7 @@ from comparing import compare_replies, run_lines
 from pupil import Pupil
 from strange_inputs import strange_inputs
 
+LINES = 200000
 RUNS = 12
 TYPED_LINES = 400
 
@@ -43,17 +44,18 @@ def pieces_of(random, text, longest):
         at = end
 
 
-def typed(random, command, count):
+def typed(random, chosen, count):
     """Types lines byte by byte and waits now and then for the replies that are due, as a person would."""
     text, expected = asked_and_replied(random, count, Counter())
-    running = programs.Running(command)
+    running = programs.Running(chosen.board)
     due = 0
     for at in range(len(text)):
-        running.write(text[at:at + 1])
+        if not running.write(text[at:at + 1]):
+            break
         if text[at:at + 1] != b"\n":
             continue
         due = expected.index(b"\n", due) + 1
-        if random.random() < 0.3 and not running.wait_for(due):
+        if random.random() < 0.3 and not running.wait_for(due, chosen.patience):
             running.process.kill()
             told = f"no reply came to line {text[:at].count(10) + 1} though it is complete"
             raise driver.Difference(told, text, expected)
@@ -65,17 +67,9 @@ def typed(random, command, count):
     return text.count(b"\n")
 
 
-def check_met(met):
-    """Runs that have not met every code and every way compare too little."""
-    codes = [(request, code) for request, codes in CODES.items() for code in codes]
-    missing = [what for what in [*codes, *WAYS] if met[what] < 3]
-    if missing:
-        raise driver.Difference(f"the lines are too few or too alike: hardly met {missing}")
-
-
 def compare(chosen):
     """Long runs, lines typed byte by byte, and inputs of odd shapes; the last line counts them."""
-    random = numbers.Random(chosen.seed)
+    random = Random(chosen.seed)
     met = Counter()
     done = 0
     for run in range(RUNS):
@@ -83,9 +77,10 @@ def compare(chosen):
         pieces = pieces_of(random, text, PIECES[run % len(PIECES)])
         run_lines(chosen.board, text, pieces, expected)
         done += len(lines.lines_of(text))
-    if chosen.count >= 20000:
-        check_met(met)
-    done += typed(random, chosen.board, min(TYPED_LINES, chosen.count))
+    if chosen.count >= LINES:
+        codes = [(request, code) for request, codes in CODES.items() for code in codes]
+        driver.check_met(met, [*codes, *WAYS], 3, "lines")
+    done += typed(random, chosen, min(TYPED_LINES, chosen.count))
     strange = list(strange_inputs(random))
     for text in strange:
         run_lines(chosen.board, text, pieces_of(random, text, 100000))
@@ -93,4 +88,4 @@ def compare(chosen):
 
 
 if __name__ == "__main__":
-    driver.finish("random_lines", compare, driver.options(__doc__, 200000))
+    driver.finish("random_lines", compare, driver.options(__doc__, LINES))

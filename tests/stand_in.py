@@ -10,6 +10,9 @@ import model
 # The reply, counted from 0, that a fault of replies spoils.
 SPOILED_REPLY = 3
 
+# The fault of a board that holds each reply back until the next line.
+LATE = "late"
+
 
 def digit(reply):
     """One digit changed."""
@@ -58,8 +61,11 @@ def clear_swallowed_header():
 def free_before_move():
     """Frees the old block of a move before its room is sure."""
     def moved(words, block, granted, asked):
+        kept = words[block:block + granted]
         words[:] = model.free_rule(words, block)[1]
-        return model.alloc_rule(words, asked)
+        grant, after = model.alloc_rule(words, asked)
+        after[grant[0]:grant[0] + granted] = kept
+        return grant, after
 
     model.moved = moved
 
@@ -94,11 +100,16 @@ def main(name, fault=None):
     """Answers as the program would, but for the fault."""
     if fault in RULE_FAULTS:
         RULE_FAULTS[fault]()
+    held_back = b""
     for number, reply in enumerate(board_replies() if name == "board" else cases_replies()):
         spoil = fault in REPLY_FAULTS and number == SPOILED_REPLY
-        sys.stdout.buffer.write(REPLY_FAULTS[fault](reply) if spoil else reply)
+        written = REPLY_FAULTS[fault](reply) if spoil else reply
+        if fault == LATE:
+            written, held_back = held_back, written
+        sys.stdout.buffer.write(written)
         if name == "board":
             sys.stdout.buffer.flush()
+    sys.stdout.buffer.write(held_back)
 
 
 if __name__ == "__main__":

@@ -1,4 +1,4 @@
-"""Inputs of an odd shape for the program `board`: empty ones, unfinished ones, and lines of megabytes."""
+"""Inputs of an odd shape for the program `board`: empty, unfinished, any byte anywhere, lines of megabytes."""
 
 MEGABYTE = 1000000
 GOOD = b"010020\n020005\n"
@@ -13,7 +13,17 @@ def short_inputs():
         yield GOOD + last
 
 
-def lengths_at_edges(random):
+def every_byte_in_every_place():
+    """Each request with every byte but LF in the place of each of its digits, and behind it."""
+    text = GOOD
+    for line in (b"010020", b"020005", b"03001A", b"04001A0006", b"05"):
+        for at in range(len(line) + 1):
+            for byte in [*range(10), *range(11, 256)]:
+                text += line[:at] + bytes([byte]) + line[at + 1:] + b"\n"
+    return text
+
+
+def lengths_at_edges():
     """Lines whose lengths lie around powers of two, where a count or a buffer may end."""
     text = GOOD
     for power in (3, 4, 5, 6, 7, 8, 10, 12, 13, 14, 15, 16, 17):
@@ -37,5 +47,6 @@ def long_lines(random):
 def strange_inputs(random):
     """All of them."""
     yield from short_inputs()
-    yield lengths_at_edges(random)
+    yield every_byte_in_every_place()
+    yield lengths_at_edges()
     yield from long_lines(random)

@@ -16,12 +16,14 @@ LINES = b"010020\n020005\n020001\n05\n03001A\n0Z\n"
 SOUND = [12, 6, 4, 4294967295, 77, 78, 6, 0, 79, 80, 81, 82]
 CASES = [cases.Case(cases.ALLOC, 0, 2, SOUND), cases.Case(cases.VIEW, 4, 0, SOUND), cases.Case(cases.FREE, 4, 0, SOUND)]
 
-# Faults of a stand-in for a program, and the drivers that have to see them.
+# The drivers, how much each compares here, and the faults of a stand-in for a program that it has to see.
 FAULTS = [
-    ("document_rows", "board", ["digit", "missing", "extra", "tail"]),
-    ("document_rows", "cases", ["word", "missing", "extra"]),
-    ("random_lines", "board", ["digit", "missing", "extra", "tail", "early"]),
-    ("damaged_arenas", "cases", ["word", "missing", "extra", "tail", "believe", "clear", "early"]),
+    ("document_rows", 1, "board", ["digit", "missing", "extra", "tail"]),
+    ("document_rows", 1, "cases", ["word", "missing", "extra"]),
+    ("pages", 1, "board", ["digit", "missing", "tail"]),
+    ("random_lines", 3000, "board", ["digit", "missing", "extra", "tail", "early", "late"]),
+    ("damaged_arenas", 3000, "cases", ["word", "missing", "extra", "tail", "believe", "clear", "early"]),
+    ("full_board", 1, "board", ["digit"]),
 ]
 
 
@@ -75,9 +77,10 @@ def in_tests(name):
     return os.path.join(programs.ROOT, "tests", name)
 
 
-def sees_difference(name, folder, seed, faulty, fault):
+def sees_difference(name, count, folder, seed, faulty, fault):
     """Whether a driver tells of a difference on stand-ins, one of them with a fault; None when it says neither."""
-    command = [sys.executable, in_tests(name + ".py"), "--seed", str(seed), "--count", "3000", "--keep", folder]
+    command = [sys.executable, in_tests(name + ".py"), "--seed", str(seed), "--count", str(count), "--keep", folder]
+    command += ["--patience", "5"]
     both = name == "document_rows"
     for program in ("board", "cases") if both else (faulty,):
         words = [sys.executable, in_tests("stand_in.py"), program] + [fault] * (program == faulty and fault != "")
@@ -90,9 +93,9 @@ def check_drivers(seed):
     """A driver must see a difference on a stand-in with a fault and none on a true one; gives the number of faults."""
     count = 0
     with tempfile.TemporaryDirectory() as folder:
-        for name, faulty, faults in FAULTS:
+        for name, much, faulty, faults in FAULTS:
             for fault in ["", *faults]:
-                if sees_difference(name, folder, seed, faulty, fault) is not (fault != ""):
+                if sees_difference(name, much, folder, seed, faulty, fault) is not (fault != ""):
                     raise driver.Difference(f"{name} is wrong about a {faulty} with the fault '{fault or 'none'}'")
             count += len(faults)
     return count

@@ -21,11 +21,11 @@ use Rattle.arena.proofs.Moving.{cut-numbers}
 use Rattle.arena.proofs.Tallying.{counted, tallied-counts, tallied-small}
 use Rattle.arena.proofs.Cases.{Case, refuses, does, Starts, starts, start-case, Allots, allots, alloc-case, Frees, frees, free-case, Reports, reports, report-case}
 use Rattle.arena.proofs.Regranting.{Regrants, shrinks, grows, moves, realloc-case}
-use Rattle.lines.specs.Places.{fieldValues}
+use Rattle.lines.specs.Digits.{twoDigitValues, fourDigitValues}
 
 -- ---- the code
 
-number-small : (why : Reason) → number why < 256
+number-small : (why : Reason) → number why < twoDigitValues
 number-small Length = omega arith
 number-small Damaged = omega arith
 number-small NotABlock = omega arith
@@ -36,7 +36,7 @@ number-small Frame = omega arith
 
 -- the code of a call's answer fits two digits
 pub code-below : {fields : ℕ} {a : List ℕ} {Refuses : Reason → Type 0} {Does : List ℕ → List ℕ → Type 0} {outcome : Outcome}
-    → Case fields a Refuses Does outcome → outcome .answer .code < 256
+    → Case fields a Refuses Does outcome → outcome .answer .code < twoDigitValues
 code-below (refuses why r) = number-small why
 code-below (does d) = omega arith
 
@@ -50,9 +50,9 @@ Below n (v ∷ vs) = (v < n) × Below n vs
 -- so many fields, each of which fits four digits
 pub record Fits (fields : ℕ) (values : List ℕ) : Type 0 where
   pub count : length values ≡ fields
-  pub small : Below fieldValues values
+  pub small : Below fourDigitValues values
 
-zeros-below : (fields : ℕ) → Below fieldValues (replicate fields 0)
+zeros-below : (fields : ℕ) → Below fourDigitValues (replicate fields 0)
 zeros-below zero = tt
 zeros-below (suc fields) = (omega arith, zeros-below fields)
 

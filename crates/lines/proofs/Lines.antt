@@ -10,9 +10,9 @@ use lib.ListN.{length, take, drop, take-append-drop, length-drop, drop-of-length
 use lib.Seq.{length-take-le, drop-drop}
 use borrow.Author.Tests.{ltb-true, ltb-false, le-leb, lt-leb, eqb-true}
 use Rattle.layout.proofs.Bools.{both}
-use Rattle.lines.specs.Digits.{worth, isDigit, allDigits, numberFrom, numberOf}
+use Rattle.lines.specs.Digits.{worth, isDigit, allDigits, numberFrom, numberOf, fourDigitValues}
 use Rattle.lines.specs.Requests.{field, requestOf}
-use Rattle.lines.specs.Places.{mostDigits, atStart, spoilt, fieldValues, nineDigitValues, onward, requestAt}
+use Rattle.lines.specs.Places.{mostDigits, atStart, spoilt, nineDigitValues, onward, requestAt}
 use Rattle.lines.specs.declared.Place.{Place}
 use Rattle.lines.specs.declared.request.Request.the-variants.{Malformed}
 
@@ -126,16 +126,16 @@ digits-cut k bs digits = digits-append (take k bs) (drop k bs) (rw take-append-d
 
 -- a field, four digits at `i`, behind digits that make `n`: what they make together, and how both are told from that
 record FieldAt (n i : ℕ) (line : List ℕ) : Type 0 where
-  joins : numberFrom n (drop i line) ≡ numberFrom (n * fieldValues + numberOf (take 4 (drop i line))) (drop (i + 4) line)
-  front : (n * fieldValues + numberOf (take 4 (drop i line))) / fieldValues ≡ n
-  last : (n * fieldValues + numberOf (take 4 (drop i line))) % fieldValues ≡ numberOf (take 4 (drop i line))
+  joins : numberFrom n (drop i line) ≡ numberFrom (n * fourDigitValues + numberOf (take 4 (drop i line))) (drop (i + 4) line)
+  front : (n * fourDigitValues + numberOf (take 4 (drop i line))) / fourDigitValues ≡ n
+  last : (n * fourDigitValues + numberOf (take 4 (drop i line))) % fourDigitValues ≡ numberOf (take 4 (drop i line))
 
 field-at : (n i : ℕ) (line : List ℕ) → allDigits line ≡ true → i + 4 ≤ length line → FieldAt n i line
 field-at n i line digits fits =
     let part = take 4 (drop i line) in
     let long : length part ≡ 4 = length-take-le 4 (drop i line) (simp length-drop (omega arith)) in
-    let sum : numberFrom n part ≡ n * fieldValues + numberOf part = omega (arith, rw long at (number-raised n 0 n part (omega arith))) in
-    let below : numberOf part < fieldValues = rw long at (number-below 0 1 part (digits-cut 4 (drop i line) (digits-cut i line digits .1) .0) (omega arith)) in
+    let sum : numberFrom n part ≡ n * fourDigitValues + numberOf part = omega (arith, rw long at (number-raised n 0 n part (omega arith))) in
+    let below : numberOf part < fourDigitValues = rw long at (number-below 0 1 part (digits-cut 4 (drop i line) (digits-cut i line digits .1) .0) (omega arith)) in
     record { joins = rw (← sum, ← drop-drop) (number-cut n 4 (drop i line)); front = omega arith; last = omega arith }
 
 -- ---- the request
@@ -159,13 +159,13 @@ digits-known line digits = go (eqb (length line) 6) refl (eqb (length line) 10) 
     go true p ten q two r =
         let long = eqb-true (length line) 6 p in
         let first = field-at kind 2 line digits (omega arith) in
-        let same : numberOf line % tenDigits ≡ kind * fieldValues + field line 0 = told long (omega arith) (first .joins) in
+        let same : numberOf line % tenDigits ≡ kind * fourDigitValues + field line 0 = told long (omega arith) (first .joins) in
         rw (digits, long, same, first .front, first .last)
     go false p true q two r =
         let long = eqb-true (length line) 10 q in
         let first = field-at kind 2 line digits (omega arith) in
-        let second = field-at (kind * fieldValues + field line 0) 6 line digits (omega arith) in
-        let same : numberOf line % tenDigits ≡ (kind * fieldValues + field line 0) * fieldValues + field line 1 = told long (omega arith) (first .joins ∙ second .joins) in
+        let second = field-at (kind * fourDigitValues + field line 0) 6 line digits (omega arith) in
+        let same : numberOf line % tenDigits ≡ (kind * fourDigitValues + field line 0) * fourDigitValues + field line 1 = told long (omega arith) (first .joins ∙ second .joins) in
         rw (digits, long, same, second .front, second .last, first .front, first .last)
     go false p false q true r =
         let long = eqb-true (length line) 2 r in

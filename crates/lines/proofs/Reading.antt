@@ -6,8 +6,7 @@ use mathlib.Core.Bool.{Bool, true, false, cond, and-false}
 use native.Mathlib.Omega.{arith}
 use lib.Dec.{leb, ltb}
 use borrow.Author.Tests.{ltb-true, ltb-false, le-leb, lt-leb}
-use Rattle.lines.specs.Digits.{between, worth, numberOf, glyph, twoDigits, fourDigits}
-use Rattle.lines.specs.Places.{fieldValues}
+use Rattle.lines.specs.Digits.{between, worth, numberOf, glyph, twoDigits, fourDigits, fourDigitValues, twoDigitValues}
 use Rattle.lines.proofs.Ranges.{worth-known}
 
 inside : (first last b : ℕ) → first ≤ b → b ≤ last → between first last b ≡ true
@@ -36,11 +35,11 @@ worth-glyph d l = go (ltb d 10) refl
         ∙ omega arith
 
 -- two digits tell a number below 256
-pub two-read : (v : ℕ) → v < 256 → numberOf (twoDigits v) ≡ v
+pub two-read : (v : ℕ) → v < twoDigitValues → numberOf (twoDigits v) ≡ v
 two-read v fits = rw (worth-glyph (v / 16 % 16) (omega arith), worth-glyph (v % 16) (omega arith)) (omega arith)
 
 -- four digits tell a field
-pub four-read : (v : ℕ) → v < fieldValues → numberOf (fourDigits v) ≡ v
+pub four-read : (v : ℕ) → v < fourDigitValues → numberOf (fourDigits v) ≡ v
 four-read v fits =
     rw (worth-glyph (v / 256 / 16 % 16) (omega arith), worth-glyph (v / 256 % 16) (omega arith), worth-glyph (v / 16 % 16) (omega arith), worth-glyph (v % 16) (omega arith))
     (omega arith)

@@ -7,10 +7,9 @@ use lib.ListN.{length, getD, take, drop}
 use Rattle.arena.specs.Answers.{Answer}
 use Rattle.arena.proofs.Cases.{start-case, alloc-case, free-case, report-case}
 use Rattle.arena.proofs.Regranting.{realloc-case}
-use Rattle.lines.specs.Digits.{lineEnd, numberOf}
+use Rattle.lines.specs.Digits.{lineEnd, numberOf, fourDigitValues, twoDigitValues}
 use Rattle.lines.specs.Requests.{field, kindOf}
 use Rattle.lines.specs.Boards.{Board, fieldsText, replyText, lentOf, lentFor, outcomeOf, replied}
-use Rattle.lines.specs.Places.{fieldValues}
 use Rattle.lines.specs.declared.request.Request.{Request}
 use Rattle.lines.specs.declared.request.Request.the-variants.{Start, Alloc, Free, Realloc, Report, Malformed}
 use Rattle.lines.proofs.Reading.{two-read, four-read}
@@ -28,9 +27,9 @@ fieldsOf Malformed = 0
 -- a reply whose numbers are small enough for their digits
 pub record Legible (kind : ℕ) (answer : Answer) (reply : List ℕ) : Type 0 where
   pub is : reply ≡ replyText kind answer
-  pub kind-fits : kind < 256
-  pub code-fits : answer .code < 256
-  pub fields-fit : Below fieldValues (answer .values)
+  pub kind-fits : kind < twoDigitValues
+  pub code-fits : answer .code < twoDigitValues
+  pub fields-fit : Below fourDigitValues (answer .values)
 
 -- a reply whose digits make its numbers again: two of kind, two of code, four for each field
 pub record Reads (kind : ℕ) (answer : Answer) (reply : List ℕ) : Type 0 where
@@ -38,7 +37,7 @@ pub record Reads (kind : ℕ) (answer : Answer) (reply : List ℕ) : Type 0 wher
   pub code-read : numberOf (take 2 (drop 2 reply)) ≡ answer .code
   pub field-read : (i : ℕ) → i < length (answer .values) → field (drop 2 reply) i ≡ getD (answer .values) i 0
 
-kind-small : (request : Request) → kindOf request < 256
+kind-small : (request : Request) → kindOf request < twoDigitValues
 kind-small (Start n) = omega arith
 kind-small (Alloc n) = omega arith
 kind-small (Free b) = omega arith
@@ -46,7 +45,7 @@ kind-small (Realloc b n) = omega arith
 kind-small Report = omega arith
 kind-small Malformed = omega arith
 
-code-small : (request : Request) (board : Board) → outcomeOf request board .answer .code < 256
+code-small : (request : Request) (board : Board) → outcomeOf request board .answer .code < twoDigitValues
 unfolding outcomeOf
 code-small (Start n) board = code-below (start-case (lentFor n board))
 code-small (Alloc n) board = code-below (alloc-case (lentOf board) n)
@@ -71,7 +70,7 @@ unfolding replied
 reply-legible request board =
     record { is = refl; kind-fits = kind-small request; code-fits = code-small request board; fields-fit = answer-fits request board .small }
 
-field-told : (values rest : List ℕ) (i : ℕ) → i < length values → Below fieldValues values
+field-told : (values rest : List ℕ) (i : ℕ) → i < length values → Below fourDigitValues values
     → numberOf (take 4 (drop (i * 4) (fieldsText values ++ rest))) ≡ getD values i 0
 field-told [] rest i less fits = absurd (omega arith)
 field-told (v ∷ values) rest zero less fits = four-read v (fits .0)

@@ -35,9 +35,16 @@ numberOf bs = numberFrom 0 bs
 unfoldable pub glyph : ℕ → ℕ
 glyph d = cond (ltb d 10) (48 + d) (65 + (d - 10))
 
+-- what two digits make is below this number, and what four make
+abbrev pub twoDigitValues : ℕ
+twoDigitValues = 256
+
+abbrev pub fourDigitValues : ℕ
+fourDigitValues = 65536
+
 -- a number's last two digits, and its last four
 abbrev pub twoDigits : ℕ → List ℕ
 twoDigits v = glyph (v / 16 % 16) ∷ glyph (v % 16) ∷ []
 
 abbrev pub fourDigits : ℕ → List ℕ
-fourDigits v = twoDigits (v / 256) ++ twoDigits v
+fourDigits v = twoDigits (v / twoDigitValues) ++ twoDigits v

@@ -2,7 +2,7 @@
 use Prim.Native.Nat.{ℕ, _+_, _*_, _/_, _%_}
 use mathlib.Core.Bool.{cond, _&&_}
 use lib.Dec.{ltb, eqb}
-use Rattle.lines.specs.Digits.{worth, isDigit}
+use Rattle.lines.specs.Digits.{worth, isDigit, fourDigitValues}
 use Rattle.lines.specs.Requests.{digitsFor}
 use Rattle.lines.specs.declared.Place.{Place}
 use Rattle.lines.specs.declared.request.Request.{Request}
@@ -20,13 +20,9 @@ atStart = record { digits = 0; number = 0 }
 abbrev pub spoilt : Place
 spoilt = record { digits = mostDigits + 1; number = 0 }
 
--- what fits a field of four digits is below this number
-abbrev pub fieldValues : ℕ
-fieldValues = 65536
-
 -- what nine digits make is below this number
 abbrev pub nineDigitValues : ℕ
-nineDigitValues = fieldValues * fieldValues * 16
+nineDigitValues = fourDigitValues * fourDigitValues * 16
 
 -- the place after one more byte of the line: its digits are counted, and the number that they make is kept. Nine digits at most go on: a place that a line leads to has no more, and another must not outgrow its word
 unfoldable pub onward : Place → ℕ → Place
@@ -42,8 +38,8 @@ oneField kind n = cond (eqb kind 1) (Start n) (cond (eqb kind 2) (Alloc n) (cond
 -- the request of a line that ends here
 unfoldable pub requestAt : Place → Request
 requestAt place =
-    let rest = place .number / fieldValues in
-    let last = place .number % fieldValues in
+    let rest = place .number / fourDigitValues in
+    let last = place .number % fourDigitValues in
     cond (eqb (place .digits) (digitsFor 1)) (oneField rest last)
-    (cond (eqb (place .digits) (digitsFor 2) && eqb (rest / fieldValues) 4) (Realloc (rest % fieldValues) last)
+    (cond (eqb (place .digits) (digitsFor 2) && eqb (rest / fourDigitValues) 4) (Realloc (rest % fourDigitValues) last)
     (cond (eqb (place .digits) (digitsFor 0) && eqb (place .number) 5) Report Malformed))

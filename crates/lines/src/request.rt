@@ -14,10 +14,10 @@ const NO_FIELD: usize = 2;
 const ONE_FIELD: usize = NO_FIELD + 4;
 
 const TWO_FIELDS: usize = ONE_FIELD + 4;
-// What fits a field of four digits is below this number.
-const FIELD_VALUES: u64 = 65536;
+// What four digits, a field, make is below this number.
+const FOUR_DIGIT_VALUES: u64 = 65536;
 // What nine digits make is below this number.
-const NINE_DIGIT_VALUES: u64 = FIELD_VALUES * FIELD_VALUES * 16;
+const NINE_DIGIT_VALUES: u64 = FOUR_DIGIT_VALUES * FOUR_DIGIT_VALUES * 16;
 
 // A line's request.
 pub(crate) enum Request {
@@ -60,13 +60,17 @@ pub(crate) fn onward(place: Place, b: u8) -> Place
 pub(crate) fn request_at(place: Place) -> Request
     ensures { λ r. ⌜ r ≡ requestAt place ⌝ }
 {
-    let rest = place.number / FIELD_VALUES;
-    let last = (place.number % FIELD_VALUES) as u32;
+    let rest = place.number / FOUR_DIGIT_VALUES;
+    let last = (place.number % FOUR_DIGIT_VALUES) as u32;
     if place.digits == ONE_FIELD {
         return one_field(rest, last);
     }
     if place.digits == TWO_FIELDS {
-        return two_fields(rest / FIELD_VALUES, (rest % FIELD_VALUES) as u32, last);
+        return two_fields(
+            rest / FOUR_DIGIT_VALUES,
+            (rest % FOUR_DIGIT_VALUES) as u32,
+            last,
+        );
     }
     if place.digits == NO_FIELD {
         return no_field(place.number);

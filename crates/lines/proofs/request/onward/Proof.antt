@@ -14,7 +14,7 @@ spoilt-requires c κs = search needs
 
 returns : tie.Need-returns
 unfolding onward
-returns c = c .spoilt .ensures ∙ simp (← c .before .before .worth .ensures, le-ltb _ _ (c .before .if1 .taken))
+returns c = c .spoilt .ensures ∙ simp (← c .before .before .worth .ensures, le-ltb (c .before .before .worth .result) 16 (c .before .if1 .taken))
 
 spoilt-requires-2 : tie.Need-spoilt-requires-2
 spoilt-requires-2 c κs = search needs
@@ -23,7 +23,7 @@ returns-2 : tie.Need-returns-2
 unfolding onward
 returns-2 c =
     let d = c .before .before .before in
-    c .spoilt2 .ensures ∙ simp (← d .before .worth .ensures, lt-ltb _ _ (d .if1 .left), le-ltb _ _ (c .before .if2 .taken))
+    c .spoilt2 .ensures ∙ simp (← d .before .worth .ensures, lt-ltb (d .before .worth .result) 16 (d .if1 .left), le-ltb _ _ (c .before .if2 .taken))
 
 add-t5 : tie.Need-add-t5
 add-t5 c = search needs
