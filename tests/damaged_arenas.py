@@ -34,7 +34,7 @@ def length_for(random, number):
 
 
 def arena_for(random, number):
-    """An arena of some kind; lengths that no arena can have get words of any kind, or a sound arena's and more."""
+    """An arena that is sound, spoiled, or of any words; a length that no arena can have gets words of any kind."""
     length = length_for(random, number)
     lawful = length % 2 == 0 and model.LEAST_ARENA <= length <= model.LONGEST_ARENA
     kind = random.random()

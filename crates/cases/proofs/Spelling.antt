@@ -7,6 +7,7 @@ use native.Mathlib.Omega.{arith}
 use native.Mathlib.Numerals.{add-one, towards-suc}
 use lib.ListN.{length, getD, drop, drop-of-length-le}
 use lib.Seq.{drop-cons}
+use Rattle.layout.proofs.Bounds.{AllBelow}
 use Rattle.layout.specs.Numbers.{wordValues}
 use Rattle.cases.specs.Words.{wordOf, fourOf, wordsOf, bytesOf}
 
@@ -35,11 +36,6 @@ no-bytes ws i h = rw (drop-of-length-le ws h)
 
 -- ---- one undoes the other
 
--- every number of the list is below `n`
-pub AllBelow : ℕ → List ℕ → Type 0
-AllBelow n [] = Unit {0}
-AllBelow n (x ∷ xs) = (x < n) × AllBelow n xs
-
 -- the word that the four bytes of a word spell
 word-of-four : (w : ℕ) → w < wordValues → wordOf (w % 256) (w / 256 % 256) (w / 65536 % 256) (w / 16777216 % 256) ≡ w
 word-of-four w h =
@@ -51,7 +47,7 @@ word-of-four w h =
 
 -- the words of the bytes of words are these words
 pub words-of-bytes : (ws : List ℕ) → AllBelow wordValues ws → wordsOf (bytesOf ws) ≡ ws
-unfolding AllBelow wordsOf bytesOf
+unfolding wordsOf bytesOf
 words-of-bytes [] h = refl
 words-of-bytes (w ∷ ws) h = ap₂ _∷_ (word-of-four w (h .0)) (words-of-bytes ws (h .1))
 
@@ -62,7 +58,7 @@ four-of-word a b c d ha hb hc hd =
 
 -- the bytes of the words of bytes are these bytes, where they make whole words
 pub bytes-of-words : (bs : List ℕ) → AllBelow 256 bs → length bs % 4 ≡ 0 → bytesOf (wordsOf bs) ≡ bs
-unfolding AllBelow wordsOf bytesOf
+unfolding wordsOf bytesOf
 bytes-of-words [] h m = refl
 bytes-of-words (a ∷ []) h m = absurd (omega arith)
 bytes-of-words (a ∷ (b ∷ [])) h m = absurd (omega arith)

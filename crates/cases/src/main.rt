@@ -58,7 +58,7 @@ fn write_reply(reply: Reply, part: &[u32], a: &[u32], bytes: &mut [u8]) -> bool
     write_words(a, bytes)
 }
 
-// Reads the arena of a case, makes its call and writes the reply; false where the arena is cut short.
+// Reads the arena of a case, makes its call and writes the reply; false where the arena is cut short or the reply cannot be written.
 fn run_call(call: u32, b: u32, n: u32, a: &mut [u32], part: &mut [u32], bytes: &mut [u8]) -> bool
     requires { ⌜ Buffers (now a) (now part) (now bytes) ⌝ }
 {
@@ -69,7 +69,7 @@ fn run_call(call: u32, b: u32, n: u32, a: &mut [u32], part: &mut [u32], bytes: &
     write_reply(reply, part, a, bytes)
 }
 
-// Runs one case, whose arena is read to the start of `space`; false where there is no whole case, or where its arena has more words than that.
+// Runs one case, whose arena is read to the start of `space`; false where there is no whole case, where its arena has more words than that, or where the reply cannot be written.
 fn run_case(space: &mut [u32], part: &mut [u32], bytes: &mut [u8]) -> bool
     requires { ⌜ Buffers (now space) (now part) (now bytes) ⌝ }
 {

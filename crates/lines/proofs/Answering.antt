@@ -112,8 +112,8 @@ malformed-answered words lent at end room text fits puts =
 -- ---- a start
 
 -- a refusal is not done
-refusal-stays : (why : Reason) {A : Type 0} → number why ≡ 0 → A
-refusal-stays why none = absurd (omega (arith, number-positive why, none))
+refusal-not-done : (why : Reason) {A : Type 0} → number why ≡ 0 → A
+refusal-not-done why none = absurd (omega (arith, number-positive why, none))
 
 -- the buffer has not as many words: none are lent
 pub start-lends-none : (words : List ℕ) (n lent at end : ℕ) (room text : List ℕ) → length words < n → lent ≤ length words
@@ -123,7 +123,7 @@ start-lends-none words n lent at end room text more fits puts =
     let none : lentFor n (lending words lent) ≡ [] = ap (λ (t : Bool). cond t (take n words) []) (lt-leb _ _ more) in
     request-answered (Start n) (lending words lent) words lent at end [] room text (refusal 0 Length)
     (subst⁻¹ (λ (a : List ℕ). Gives (startOn a) (refusal 0 Length) []) none (record { answers = refl; leaves = refl }))
-    (refusal-stays Length) (λ not. refl) fits puts (omega arith)
+    (refusal-not-done Length) (λ not. refl) fits puts (omega arith)
 
 -- the first `n` words are lent for it
 lent-for : (words : List ℕ) (n lent : ℕ) (answer : Answer) (after : List ℕ) → n ≤ length words → Gives (startOn (take n words)) answer after
@@ -137,11 +137,11 @@ pub start-lends-refused : (words : List ℕ) (n lent at end : ℕ) (why : Reason
     → Gives (startOn (take n words)) (refusal 0 why) after → Puts at (replyText 1 (refusal 0 why)) room end text
     → Answers (replied (Start n) (lending words lent)) (after ++ drop n words) lent at room end text
 start-lends-refused words n lent at end why after room text enough fits gives puts =
-    let some : startOn (take n words) .answer .code ≢ 0 = λ none. refusal-stays why (ap (λ (x : Answer). x .code) (gives .answers) ∙ none) in
+    let some : startOn (take n words) .answer .code ≢ 0 = λ none. refusal-not-done why (ap (λ (x : Answer). x .code) (gives .answers) ∙ none) in
     let same : after ++ drop n words ≡ words
     = ap (λ (a : List ℕ). a ++ drop n words) (gives .leaves ∙ start-refused-unchanged (take n words) some) ∙ take-append-drop n words in
     request-answered (Start n) (lending words lent) (after ++ drop n words) lent at end after room text (refusal 0 why) (lent-for words n lent _ _ enough gives)
-    (refusal-stays why) (λ not. ap (λ (a : List ℕ). lending a lent) same) (omega (arith, fits, ap length same)) puts (omega arith)
+    (refusal-not-done why) (λ not. ap (λ (a : List ℕ). lending a lent) same) (omega (arith, fits, ap length same)) puts (omega arith)
 
 -- it is done: they are lent from now on
 pub start-lends : (words : List ℕ) (n lent at end : ℕ) (after room text : List ℕ) → n ≤ length words → length (after ++ drop n words) ≡ length words

@@ -11,6 +11,7 @@ use Rattle.layout.specs.Walk.{sound, chunksOf}
 use Rattle.layout.specs.Reasons.{number}
 use Rattle.layout.specs.declared.Reason.{Reason}
 use Rattle.layout.specs.declared.Reason.the-variants.{Length, Damaged, NotABlock, Zero, TooLarge, NoRoom, Frame}
+use Rattle.layout.proofs.Bounds.{AllBelow}
 use Rattle.layout.proofs.Holds.{total-append}
 use Rattle.layout.proofs.Round.{sound-chunks}
 use Rattle.arena.specs.Answers.{Outcome}
@@ -42,17 +43,12 @@ code-below (does d) = omega arith
 
 -- ---- the fields
 
--- all of these numbers are below `n`
-abbrev pub Below : ℕ → List ℕ → Type 0
-Below n [] = Unit {0}
-Below n (v ∷ vs) = (v < n) × Below n vs
-
 -- so many fields, each of which fits four digits
 pub record Fits (fields : ℕ) (values : List ℕ) : Type 0 where
   pub count : length values ≡ fields
-  pub small : Below fourDigitValues values
+  pub small : AllBelow fourDigitValues values
 
-zeros-below : (fields : ℕ) → Below fourDigitValues (replicate fields 0)
+zeros-below : (fields : ℕ) → AllBelow fourDigitValues (replicate fields 0)
 zeros-below zero = tt
 zeros-below (suc fields) = (omega arith, zeros-below fields)
 

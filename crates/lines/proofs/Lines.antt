@@ -52,12 +52,12 @@ empty-known (b ∷ bs) = (λ none. let z : ⊥ = omega (arith, place-begun atSta
 -- ---- the digits of a line are counted
 
 -- what ten digits make is below this number
-abbrev tenDigits : ℕ
-tenDigits = nineDigitValues * 16
+abbrev tenDigitValues : ℕ
+tenDigitValues = nineDigitValues * 16
 
 -- the place after so many digits, which keeps what the last ten of them make
 abbrev counted : ℕ → ℕ → Place
-counted digits number = record { digits = digits; number = number % tenDigits }
+counted digits number = record { digits = digits; number = number % tenDigitValues }
 
 -- the place that a line of so many bytes reaches behind digits that make `number`
 abbrev reached : ℕ → List ℕ → ℕ → Place
@@ -82,7 +82,7 @@ place-known digits number (b ∷ bs) bytes e few =
     go false p room q rest = rw p (spoilt-stays bs)
     go true p false q rest = let more : mostDigits < bytes = omega (arith, ltb-false digits mostDigits q) in rw (p, q, lt-leb bytes mostDigits more, and-false) (spoilt-stays bs)
     go true p true q rest =
-        let sum : number % tenDigits % nineDigitValues * 16 + worth b ≡ (number * 16 + worth b) % tenDigits = omega (arith, ltb-true (worth b) 16 p) in
+        let sum : number % tenDigitValues % nineDigitValues * 16 + worth b ≡ (number * 16 + worth b) % tenDigitValues = omega (arith, ltb-true (worth b) 16 p) in
         rw (p, q, sum) (rest (omega (arith, ltb-true digits mostDigits q)))
 
 -- ---- what digits make
@@ -149,7 +149,7 @@ digits-known line digits = go (eqb (length line) 6) refl (eqb (length line) 10) 
     kind = numberOf (take 2 line)
 
     -- digits that are read to their end tell the number
-    told : {n m : ℕ} → length line ≡ n → raised 1 n ≤ tenDigits → numberFrom kind (drop 2 line) ≡ numberFrom m (drop n line) → numberOf line % tenDigits ≡ m
+    told : {n m : ℕ} → length line ≡ n → raised 1 n ≤ tenDigitValues → numberFrom kind (drop 2 line) ≡ numberFrom m (drop n line) → numberOf line % tenDigitValues ≡ m
     told {n} {m} long few joins =
         let whole : numberFrom kind (drop 2 line) ≡ m = rw (drop-of-length-le line {i = n} (omega arith)) at joins in
         omega (arith, number-cut 0 2 line, rw long at (number-below 0 1 line digits (omega arith)))
@@ -159,17 +159,17 @@ digits-known line digits = go (eqb (length line) 6) refl (eqb (length line) 10) 
     go true p ten q two r =
         let long = eqb-true (length line) 6 p in
         let first = field-at kind 2 line digits (omega arith) in
-        let same : numberOf line % tenDigits ≡ kind * fourDigitValues + field line 0 = told long (omega arith) (first .joins) in
+        let same : numberOf line % tenDigitValues ≡ kind * fourDigitValues + field line 0 = told long (omega arith) (first .joins) in
         rw (digits, long, same, first .front, first .last)
     go false p true q two r =
         let long = eqb-true (length line) 10 q in
         let first = field-at kind 2 line digits (omega arith) in
         let second = field-at (kind * fourDigitValues + field line 0) 6 line digits (omega arith) in
-        let same : numberOf line % tenDigits ≡ (kind * fourDigitValues + field line 0) * fourDigitValues + field line 1 = told long (omega arith) (first .joins ∙ second .joins) in
+        let same : numberOf line % tenDigitValues ≡ (kind * fourDigitValues + field line 0) * fourDigitValues + field line 1 = told long (omega arith) (first .joins ∙ second .joins) in
         rw (digits, long, same, second .front, second .last, first .front, first .last)
     go false p false q true r =
         let long = eqb-true (length line) 2 r in
-        let same : numberOf line % tenDigits ≡ kind = told long (omega arith) refl in
+        let same : numberOf line % tenDigitValues ≡ kind = told long (omega arith) refl in
         rw (digits, long, same)
     go false p false q false r = rw (digits, p, q, r) (lost (leb (length line) mostDigits))
       where

@@ -12,7 +12,7 @@ use Rattle.lines.specs.Requests.{requestOf}
 use Rattle.lines.specs.Boards.{Board, replied}
 use Rattle.lines.specs.Texts.{linesFrom, repliedTo, means}
 use Rattle.lines.specs.Places.{atStart}
-use Rattle.lines.specs.Pieces.{Hearing, hears, goesOn, closed, heardInPieces}
+use Rattle.lines.specs.Pieces.{Hearing, hears, goesOn, unheard, closed, heardInPieces}
 use Rattle.lines.proofs.Cutting.{hears-append, heard-joined}
 use Rattle.lines.proofs.Lines.{placeOf, place-append, request-known, onward-begun, place-begun}
 
@@ -36,7 +36,7 @@ whole-text text board = heard-as-meant text [] board
 
 -- a text that comes in pieces is heard as it is meant, wherever it is cut
 pub pieces-mean : (pieces : List (List ℕ)) (board : Board) → heardInPieces pieces board ≡ means (flatten pieces) board
-pieces-mean pieces board = ap closed (heard-joined (record { replies = []; place = atStart; board = board }) pieces) ∙ whole-text (flatten pieces) board
+pieces-mean pieces board = ap closed (heard-joined (unheard board) pieces) ∙ whole-text (flatten pieces) board
 
 -- the empty text is answered nothing, and changes nothing
 pub nothing-said : (board : Board) → means [] board ≡ record { reply = []; board = board }
@@ -44,10 +44,10 @@ unfolding linesFrom repliedTo
 nothing-said board = refl
 
 -- so it is where no piece comes, or any number of empty ones
-pub nothing-heard : (pieces : ℕ) (board : Board) → heardInPieces (replicate pieces []) board ≡ record { reply = []; board = board }
+pub empty-pieces : (pieces : ℕ) (board : Board) → heardInPieces (replicate pieces []) board ≡ record { reply = []; board = board }
 unfolding hears
-nothing-heard zero board = refl
-nothing-heard (suc pieces) board = nothing-heard pieces board
+empty-pieces zero board = refl
+empty-pieces (suc pieces) board = empty-pieces pieces board
 
 -- the end of a text ends an unfinished line as a line end does
 line-end-heard : (hearing : Hearing) → 0 < hearing .place .digits → closed (goesOn hearing (lineEnd ∷ [])) ≡ closed hearing

@@ -4,6 +4,7 @@ use mathlib.Core.Path.{_≡_, refl}
 use mathlib.Core.List.{List, [], _∷_, _++_}
 use native.Mathlib.Omega.{arith}
 use lib.ListN.{length, getD, take, drop}
+use Rattle.layout.proofs.Bounds.{AllBelow}
 use Rattle.arena.specs.Answers.{Answer}
 use Rattle.arena.proofs.Cases.{start-case, alloc-case, free-case, report-case}
 use Rattle.arena.proofs.Regranting.{realloc-case}
@@ -13,7 +14,7 @@ use Rattle.lines.specs.Boards.{Board, fieldsText, replyText, lentOf, len
 use Rattle.lines.specs.declared.request.Request.{Request}
 use Rattle.lines.specs.declared.request.Request.the-variants.{Start, Alloc, Free, Realloc, Report, Malformed}
 use Rattle.lines.proofs.Reading.{two-read, four-read}
-use Rattle.lines.proofs.Fitting.{Below, Fits, code-below, start-fits, alloc-fits, free-fits, realloc-fits, report-fits}
+use Rattle.lines.proofs.Fitting.{Fits, code-below, start-fits, alloc-fits, free-fits, realloc-fits, report-fits}
 
 -- how many fields a request is answered
 abbrev pub fieldsOf : Request → ℕ
@@ -29,7 +30,7 @@ pub record Legible (kind : ℕ) (answer : Answer) (reply : List ℕ) : Type 0 wh
   pub is : reply ≡ replyText kind answer
   pub kind-fits : kind < twoDigitValues
   pub code-fits : answer .code < twoDigitValues
-  pub fields-fit : Below fourDigitValues (answer .values)
+  pub fields-fit : AllBelow fourDigitValues (answer .values)
 
 -- a reply whose digits make its numbers again: two of kind, two of code, four for each field
 pub record Reads (kind : ℕ) (answer : Answer) (reply : List ℕ) : Type 0 where
@@ -70,7 +71,7 @@ unfolding replied
 reply-legible request board =
     record { is = refl; kind-fits = kind-small request; code-fits = code-small request board; fields-fit = answer-fits request board .small }
 
-field-told : (values rest : List ℕ) (i : ℕ) → i < length values → Below fourDigitValues values
+field-told : (values rest : List ℕ) (i : ℕ) → i < length values → AllBelow fourDigitValues values
     → numberOf (take 4 (drop (i * 4) (fieldsText values ++ rest))) ≡ getD values i 0
 field-told [] rest i less fits = absurd (omega arith)
 field-told (v ∷ values) rest zero less fits = four-read v (fits .0)

@@ -24,7 +24,7 @@ spoilt = record { digits = mostDigits + 1; number = 0 }
 abbrev pub nineDigitValues : ℕ
 nineDigitValues = fourDigitValues * fourDigitValues * 16
 
--- the place after one more byte of the line: its digits are counted, and the number that they make is kept. Nine digits at most go on: a place that a line leads to has no more, and another must not outgrow its word
+-- the place after one more byte of the line: its digits are counted, and the number that they make is kept. Of the number, the last nine digits go on: a line that can still go on has no more, and a place that no line leads to must not outgrow its word
 unfoldable pub onward : Place → ℕ → Place
 onward place b =
     cond (isDigit b && ltb (place .digits) mostDigits)

@@ -62,7 +62,7 @@ wholeRun =
     ∷ plain "0Z"
     ∷ []
 
--- the same, but that words 26 and 27 are `x` and `y`, so that the copy of a move can be seen
+-- the fresh board, but that words 26 and 27 are `x` and `y`, so that the copy of a move can be seen
 abbrev pub marked : ℕ → ℕ → Board
 marked x y = lending (take 26 (fresh .words) ++ x ∷ y ∷ drop 28 (fresh .words)) 0
 

@@ -9,7 +9,7 @@ ghost use Rattle.arena.specs.Answers.{finishNumbers, grantedNumbers, reportedNu
 ghost use Rattle.lines.specs.Boards.{replyText, replyLength, fieldsText};
 ghost use Rattle.lines.specs.Inside.Answering.{Puts, numbers};
 
-// Writes fields in four digits each, and gives the place behind them.
+// Writes fields in four digits each, and gives where they end.
 fn put_fields(out: &mut [u8], at: usize, values: &[u32]) -> usize
     requires { ⌜ at + length (now values) * 4 ≤ length (now out) ⌝ }
     ensures { λ r. ⌜ Puts at (fieldsText (now (values .entry))) (now (out .entry)) r (now (out .exit)) ⌝ }
@@ -22,7 +22,7 @@ fn put_fields(out: &mut [u8], at: usize, values: &[u32]) -> usize
     at + values.len() * 4
 }
 
-// Writes a reply, and gives the place behind it.
+// Writes a reply, and gives where it ends.
 pub(crate) fn put_reply(out: &mut [u8], at: usize, kind: u32, code: u32, values: &[u32]) -> usize
     requires { ⌜ at + replyLength (length (now values)) ≤ length (now out) ⌝ }
     ensures { λ r. ⌜ Puts at (replyText kind (numbers code (now (values .entry)))) (now (out .entry)) r (now (out .exit)) ⌝ }

@@ -14,7 +14,7 @@ pub record Puts (at : ℕ) (bs : List ℕ) (room : List ℕ) (end : ℕ) (text :
   pub ends : end ≡ at + length bs
   pub says : text ≡ sets room at bs
 
--- words are lent as the board says, and the text has room for a reply at `at`
+-- no more words are lent than there are, and the text has room for a reply at `at`
 pub record Ready (words : List ℕ) (lent : ℕ) (room : List ℕ) (at : ℕ) : Type 0 where
   pub lendable : lent ≤ length words
   pub roomy : at + longestReply ≤ length room
