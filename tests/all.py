@@ -5,7 +5,7 @@ import os
 import subprocess
 import sys
 
-DRIVERS = ["teeth", "document_rows", "pages", "random_lines", "damaged_arenas", "full_board"]
+DRIVERS = ["teeth", "document_rows", "call_rows", "pages", "random_lines", "damaged_arenas", "full_board"]
 
 
 def main():

@@ -9,10 +9,17 @@ from collections import namedtuple
 
 import model
 
-START, ALLOC, FREE, REALLOC, REPORT, SIZE, VIEW, VIEW_MUT = range(1, 9)
-NAMES = ["?", "start", "alloc", "free", "realloc", "report", "size", "view", "view_mut"]
+START, ALLOC, FREE, REALLOC, REPORT, SIZE, VIEW, VIEW_MUT, RESIZE, RELOCATE = range(1, 11)
+NAMES = ["?", "start", "alloc", "free", "realloc", "report", "size", "view", "view_mut", "resize", "relocate"]
 LONGEST_CASE = 16400
 FIELDS = 4
+
+# Three calls that are asked together, with the same numbers and arena: the last is done as the first is or, where that
+# would move the block, as the second is.
+TOGETHER = (RESIZE, RELOCATE, REALLOC)
+
+# The codes that the three can have then.
+CODES_TOGETHER = [(code, code, code) for code in range(6)] + [(0, 6, 0), (8, 0, 0), (8, 6, 6)]
 
 Case = namedtuple("Case", "call block asked words")
 
@@ -25,6 +32,8 @@ CALLS = {
     SIZE: lambda case: model.size(case.words, case.block),
     VIEW: lambda case: model.view(case.words, case.block),
     VIEW_MUT: lambda case: overwritten(case),
+    RESIZE: lambda case: model.resize(case.words, case.block, case.asked),
+    RELOCATE: lambda case: model.relocate(case.words, case.block, case.asked),
 }
 
 
@@ -41,6 +50,14 @@ def answer_to(case):
     if case.call not in CALLS:
         return model.Answer(model.FRAME, (), [], case.words)
     return CALLS[case.call](case)
+
+
+def asked_together(asked):
+    """Where among these cases the three calls above are asked together."""
+    for at in range(len(asked) - 2):
+        three = asked[at:at + 3]
+        if tuple(case.call for case in three) == TOGETHER and three[0][1:] == three[1][1:] == three[2][1:]:
+            yield at
 
 
 def packed(words):

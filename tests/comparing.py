@@ -4,6 +4,7 @@ import struct
 
 import cases
 import lines
+import model
 import programs
 from driver import Difference
 
@@ -70,6 +71,41 @@ def compare_answers(asked, answers, got):
         raise Difference(f"{len(got) - begin} bytes more than the replies to {len(asked)} cases", text)
 
 
+def replies_in(asked, got):
+    """The replies to these cases that a program wrote, taken apart by the lengths that they name themselves."""
+    replies = []
+    begin = 0
+    for case in asked:
+        part_length, = struct.unpack_from("<I", got, begin + 4 * (1 + cases.FIELDS))
+        end = begin + 4 * (2 + cases.FIELDS + part_length + len(case.words))
+        replies.append(got[begin:end])
+        begin = end
+    return replies
+
+
+def go_together(block, resized, relocated, reallocated):
+    """Whether resize kept the block's number, relocate did not, and realloc did as the one or, after 8, the other."""
+    heads = [struct.unpack_from("<2I", reply) for reply in (resized, relocated, reallocated)]
+    codes = tuple(code for code, number in heads)
+    kept = codes[0] != model.DONE or heads[0][1] == block
+    moved = codes[1] != model.DONE or heads[1][1] != block
+    due = relocated if codes[0] == model.WOULD_MOVE else resized
+    return codes in cases.CODES_TOGETHER and kept and moved and reallocated == due
+
+
+def compare_together(asked, got):
+    """Complains about replies to three calls asked together that do not go together, whatever the model answers."""
+    replies = replies_in(asked, got)
+    for at in cases.asked_together(asked):
+        case, three = asked[at], replies[at:at + 3]
+        if not go_together(case.block, *three):
+            told = [struct.unpack_from("<3I", reply) for reply in three]
+            text = b"".join(map(cases.case_bytes, asked[at:at + 3]))
+            raise Difference(
+                f"cases {at + 1} to {at + 3}, resize, relocate and realloc b={case.block} n={case.asked} on the same"
+                f" {len(case.words)} words, do not go together word for word: code, block and granted are {told}", text)
+
+
 def run_lines(command, text, pieces=None, expected=None):
     """Runs the program on lines and compares its replies with the expected ones, or else with the model's."""
     wanted = lines.output_for(text) if expected is None else expected
@@ -88,3 +124,12 @@ def run_cases(command, asked, answers, rest=b""):
     except programs.ProgramFailed as failure:
         raise Difference(f"{failure} (after {len(failure.output)} bytes of replies)", text) from failure
     compare_answers(asked, answers, got)
+    compare_together(asked, got)
+
+
+def run_rows(command, rows):
+    """Holds the model and the program to rows of case and answer, and gives how many they are."""
+    asked, answers = zip(*rows)
+    compare_answers(asked, answers, b"".join(cases.reply_bytes(cases.answer_to(case)) for case in asked))
+    run_cases(command, asked, answers)
+    return len(rows)

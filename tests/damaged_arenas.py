@@ -10,18 +10,28 @@ import model
 from comparing import run_cases
 from pupil import way
 
-CALLS = 100000
+CALLS = 150000
 AT_ONCE = 4000
 EDGES = [6, 8, 16380, 16382, 16383, 16384, 16385, 16386, 16400]
 BIG = [0, 1, 2, 65536, 65540, 2**31 - 1, 2**31, 2**32 - 4, 2**32 - 3, 2**32 - 2, 2**32 - 1]
 
+# Numbers of no call, some of which are like a call's in their lowest bits.
+NO_CALLS = [0, 11, 12, 257, 258, 265, 266, 2**16 + 2, 2**31 + 3, 2**32 - 1]
+
 # What a run must have met to mean anything: every call with every code that it can give.
 CODES = {"start": (0, 1), "alloc": (0, 1, 2, 4, 5, 6), "free": (0, 1, 2, 3), "realloc": (0, 1, 2, 3, 4, 5, 6),
-         "report": (0, 1, 2), "size": (0, 1, 2, 3), "view": (0,), "view_mut": (0,), "another": (7,)}
+         "report": (0, 1, 2), "size": (0, 1, 2, 3), "view": (0,), "view_mut": (0,), "another": (7,),
+         "resize": (0, 1, 2, 3, 4, 5, 8), "relocate": (0, 1, 2, 3, 4, 5, 6)}
 PARTS = ("view empty", "view whole", "view_mut empty", "view_mut whole")
 
 # And every way to be done, with the change it makes in the number of free chunks.
-WAYS = {"alloc": (-1, 0), "free": (-1, 0, 1), "kept": (0,), "cut": (0, 1), "grown": (-1, 0), "moved": (-2, -1, 0, 1)}
+WAYS = {"alloc": (-1, 0), "free": (-1, 0, 1),
+        "realloc kept": (0,), "realloc cut": (0, 1), "realloc grown": (-1, 0), "realloc moved": (-2, -1, 0, 1),
+        "resize kept": (0,), "resize cut": (0, 1), "resize grown": (-1, 0),
+        "relocate longer": (-2, -1, 0, 1), "relocate shorter": (-2, -1, 0, 1), "relocate equal": (-2, -1, 0, 1)}
+
+# And for a move every place of the gap that it takes, seen from the old block, and how much of it is taken.
+GAPS = [(place, much) for place in ("right below", "right above", "elsewhere") for much in ("whole", "in part")]
 
 
 def length_for(random, number):
@@ -73,14 +83,16 @@ def asked_for(random, arena):
     return random.choice(BIG + [max(length - 4 + change, 0) for change in (-2, -1, 0, 1, 2)] + [random.getrandbits(32)])
 
 
-def case_for(random, number):
-    """One case: a call, its numbers and its arena."""
+def cases_for(random, number):
+    """A call with its numbers and its arena; a realloc comes together with the two calls that it is made of."""
     arena = arena_for(random, number)
     call = random.choice([cases.START, cases.REPORT, cases.SIZE, cases.VIEW, cases.VIEW_MUT, 0]
                          + [cases.ALLOC, cases.FREE] * 3 + [cases.REALLOC] * 6)
     if call == 0:
-        call = random.choice([0, 9, 10, 257, 258, 2**16 + 2, 2**31 + 3, 2**32 - 1, cases.ALLOC, cases.REALLOC])
-    return cases.Case(call, block_for(random, arena), asked_for(random, arena), arena.words)
+        call = random.choice([*NO_CALLS, cases.ALLOC, cases.REALLOC])
+    block, asked = block_for(random, arena), asked_for(random, arena)
+    calls = cases.TOGETHER if call == cases.REALLOC else [call]
+    return [cases.Case(call, block, asked, arena.words) for call in calls]
 
 
 def full_cases(random):
@@ -92,10 +104,26 @@ def full_cases(random):
 
 
 def way_of(case, answer):
-    """How a call that was done was done: its name, or by which way a realloc."""
-    if case.call != cases.REALLOC:
-        return cases.name_of(case.call)
-    return way(case.block, model.size(case.words, case.block).fields[0], *answer.fields)
+    """How a call that was done was done: its name, and what became of the block if it was to have another length."""
+    name = cases.name_of(case.call)
+    if case.call not in cases.TOGETHER:
+        return name
+    old_granted = model.size(case.words, case.block).fields[0]
+    block, granted = answer.fields
+    if case.call == cases.RELOCATE:
+        return f"{name} {'longer' if granted > old_granted else 'shorter' if granted < old_granted else 'equal'}"
+    return f"{name} {way(case.block, old_granted, block, granted)}"
+
+
+def gap_taken(case, answer):
+    """Which gap a move took, seen from the old block, and how much of it."""
+    block, granted = answer.fields
+    below = case.block - model.HEADER
+    above = below + case.words[below]
+    gaps = model.gaps_between(model.live_chunks(case.words), len(case.words))
+    gap, room = [(gap, room) for gap, room in gaps if gap < block < gap + room][0]
+    place = "right below" if gap + room == below else "right above" if gap == above else "elsewhere"
+    return place, "whole" if room == granted + model.HEADER else "in part"
 
 
 def met_by(case, answer):
@@ -104,14 +132,22 @@ def met_by(case, answer):
     yield name, "code", answer.code
     if case.call in (cases.VIEW, cases.VIEW_MUT):
         yield f"{name} {'whole' if answer.part else 'empty'}"
-    if case.call in (cases.ALLOC, cases.FREE, cases.REALLOC) and answer.code == model.DONE:
+    if case.call in (cases.ALLOC, cases.FREE, *cases.TOGETHER) and answer.code == model.DONE:
         free_chunks = [model.report(words).fields[3] for words in (case.words, answer.words)]
         yield way_of(case, answer), "free chunks", free_chunks[1] - free_chunks[0]
+    if case.call == cases.RELOCATE and answer.code == model.DONE:
+        yield gap_taken(case, answer)
+
+
+def met_together(asked, answers):
+    """The codes of each three calls that were asked together."""
+    for at in cases.asked_together(asked):
+        yield "together", tuple(answer.code for answer in answers[at:at + 3])
 
 
 def unfinished(random, number):
     """Bytes after the last case that are no case: nothing, a case cut short, or one longer than is allowed."""
-    whole = cases.case_bytes(case_for(random, 12))
+    whole = cases.case_bytes(cases_for(random, 12)[0])
     too_long = [cases.packed([cases.REPORT, 0, 0, length]) for length in (16401, 2**30, 2**31, 2**32 - 1)]
     kinds = [b"", b"\1", whole[:15], whole[:16], whole[:-1], whole[:random.randrange(16, len(whole))]]
     kinds += [start + bytes(4 * 16401) + whole for start in too_long]
@@ -119,10 +155,11 @@ def unfinished(random, number):
 
 
 def wanted():
-    """What a run has to meet: every call with every code, every way to be done, views of words and of none."""
+    """What a run has to meet: codes of one call and of three together, ways to be done, gaps taken, kinds of view."""
     codes = [(name, "code", code) for name, codes in CODES.items() for code in codes]
     ways = [(way, "free chunks", change) for way, changes in WAYS.items() for change in changes]
-    return [*codes, *ways, *PARTS]
+    together = [("together", codes) for codes in cases.CODES_TOGETHER]
+    return [*codes, *ways, *together, *GAPS, *PARTS]
 
 
 def compare(chosen):
@@ -132,12 +169,14 @@ def compare(chosen):
     done = 0
     batch = 0
     while done < chosen.count or batch < 10:
-        asked = [case_for(random, done + place) for place in range(min(AT_ONCE, max(chosen.count // 10, 1)))]
+        numbers = range(done, done + min(AT_ONCE, max(chosen.count // 10, 1)))
+        asked = [case for number in numbers for case in cases_for(random, number)]
         asked += full_cases(random) if batch == 0 else []
         answers = [cases.answer_to(case) for case in asked]
         run_cases(chosen.cases, asked, answers, unfinished(random, batch))
         for case, answer in zip(asked, answers):
             met.update(met_by(case, answer))
+        met.update(met_together(asked, answers))
         done += len(asked)
         batch += 1
     if chosen.count >= CALLS:

@@ -8,7 +8,7 @@ import lines
 import model
 import programs
 from cases import Case
-from comparing import compare_answers, compare_replies, run_cases, run_lines
+from comparing import compare_answers, compare_replies, run_lines, run_rows
 
 MARK = model.LIVE_MARK
 
@@ -117,12 +117,9 @@ def compare(chosen):
         compare_replies(text, expected, lines.output_for(text))
         run_lines(chosen.board, text, expected=expected)
         line_count += text.count(b"\n")
-    rows = [*length_cases(), *six_word_cases(), *move_cases()]
-    asked, answers = zip(*rows)
-    compare_answers(asked, answers, b"".join(cases.reply_bytes(cases.answer_to(case)) for case in asked))
-    run_cases(chosen.cases, asked, answers)
+    row_count = run_rows(chosen.cases, [*length_cases(), *six_word_cases(), *move_cases()])
     own = check_own_files()
-    return f"{line_count} line rows and {len(rows)} rows with their words compared, and {own} cases of the program's own"
+    return f"{line_count} line rows and {row_count} rows with their words compared, and {own} cases of the program's own"
 
 
 if __name__ == "__main__":

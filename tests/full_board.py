@@ -52,7 +52,7 @@ def take_largest(talk):
     talk.say(b"03%04X" % block)
 
 
-def resize(random, talk, blocks):
+def ask_other_lengths(random, talk, blocks):
     """Asks a full board for other lengths: what a block has is kept, and for more there is no room."""
     for block in random.sample(blocks, 30):
         talk.say(b"04%04X%04X" % (block, random.randint(1, 6)))
@@ -101,7 +101,7 @@ def compare(chosen):
         talk.say(b"014000")
         blocks = fill(random, talk)
         talk.say(b"05")
-        resize(random, talk, blocks)
+        ask_other_lengths(random, talk, blocks)
         sides += empty(random, talk, blocks)
         talk.say(b"023FFC")
     run_lines(chosen.board, talk.text, expected=talk.replies)

@@ -1,4 +1,4 @@
-"""The rules of document 01 for one arena: what each call answers, and every word it leaves behind.
+"""The rules for one arena, document 01's and Item 1's of document 02: what each call answers, and every word it leaves.
 
 The model shares nothing with the library. It reads an arena as the stretches of words that are live; what lies
 between them is free. A call edits the live stretches, and the headers are stored anew. A chunk is a pair here: the
@@ -15,7 +15,7 @@ LEAST_CHUNK = 4
 LEAST_ARENA = 6
 LONGEST_ARENA = 16384
 
-DONE, LENGTH, DAMAGED, NOT_A_BLOCK, ZERO, TOO_LARGE, NO_ROOM, FRAME = range(8)
+DONE, LENGTH, DAMAGED, NOT_A_BLOCK, ZERO, TOO_LARGE, NO_ROOM, FRAME, WOULD_MOVE = range(9)
 
 # What a call gives: the code, the numbers answered, the words of a view, and the whole arena afterwards.
 Answer = namedtuple("Answer", "code fields part words")
@@ -147,8 +147,8 @@ def free_rule(words, block):
     return (), stored(words, live)
 
 
-def realloc_rule(words, block, asked):
-    """The block is cut, kept or grown where it stands; failing that it moves."""
+def stayed(words, block, asked):
+    """The block is cut, kept or grown where it stands; None where it can't have its need there."""
     live = live_chunks(words)
     place = place_of(live, block)
     need = need_of(asked, len(words))
@@ -156,18 +156,32 @@ def realloc_rule(words, block, asked):
     above = live[place + 1][0] if place + 1 < len(live) else len(words)
     room = above - start
     if need > room:
-        return moved(words, block, size - HEADER, asked)
+        return None
     live[place] = start, taken_from(size if need <= size else room, need)
     return block_and_grant(*live[place]), stored(words, live)
 
 
-def moved(words, block, granted, asked):
-    """A move is an alloc, a copy of all the old granted words, and a free, one after the other."""
-    grant, copied = alloc_rule(words, asked)
-    new_block = grant[0]
-    copied[new_block:new_block + granted] = copied[block:block + granted]
-    nothing, after = free_rule(copied, block)
-    return grant, after
+def resize_rule(words, block, asked):
+    """The block stays where it stands, or the call is refused."""
+    outcome = stayed(words, block, asked)
+    if outcome is None:
+        raise Refused(WOULD_MOVE)
+    return outcome
+
+
+def move_rule(words, block, asked):
+    """An alloc, a copy of as many words as the shorter block has, and a free; refused as size is, else as alloc is."""
+    (old_granted,), unchanged = size_rule(words, block)
+    (new_block, new_granted), after_alloc = alloc_rule(words, asked)
+    shorter = min(old_granted, new_granted)
+    after_alloc[new_block:new_block + shorter] = words[block:block + shorter]
+    nothing, after = free_rule(after_alloc, block)
+    return (new_block, new_granted), after
+
+
+def realloc_rule(words, block, asked):
+    """The block stays where it stands; failing that it moves, with all its words, since it has to become longer."""
+    return stayed(words, block, asked) or move_rule(words, block, asked)
 
 
 def size_rule(words, block):
@@ -211,6 +225,14 @@ def free(words, block):
 
 def realloc(words, block, asked):
     return answered(realloc_rule, 2, words, block, asked)
+
+
+def resize(words, block, asked):
+    return answered(resize_rule, 2, words, block, asked)
+
+
+def relocate(words, block, asked):
+    return answered(move_rule, 2, words, block, asked)
 
 
 def size(words, block):

@@ -113,7 +113,7 @@ class Pupil:
 
 
 def way(old_block, old_granted, block, granted):
-    """By which way a realloc was done, as far as its answer shows it."""
+    """By which way a block was given another length, as far as the answer shows it."""
     if block != old_block:
         return "moved"
     return "kept" if granted == old_granted else "grown" if granted > old_granted else "cut"

@@ -60,18 +60,106 @@ def clear_swallowed_header():
 
 def free_before_move():
     """Frees the old block of a move before its room is sure."""
-    def moved(words, block, granted, asked):
+    def move_rule(words, block, asked):
+        (granted,), unchanged = model.size_rule(words, block)
+        model.need_of(asked, len(words))
         kept = words[block:block + granted]
         words[:] = model.free_rule(words, block)[1]
         grant, after = model.alloc_rule(words, asked)
-        after[grant[0]:grant[0] + granted] = kept
+        shorter = min(granted, grant[1])
+        after[grant[0]:grant[0] + shorter] = kept[:shorter]
         return grant, after
 
-    model.moved = moved
+    model.move_rule = move_rule
+
+
+def copy_in_move(count_of):
+    """Copies as many words in a move as `count_of` makes of the old granted words, the new ones and those asked for."""
+    def move_rule(words, block, asked):
+        (granted,), unchanged = model.size_rule(words, block)
+        (new_block, new_granted), after_alloc = model.alloc_rule(words, asked)
+        nothing, after = model.free_rule(after_alloc, block)
+        count = min(count_of(granted, new_granted, asked), len(words) - new_block)
+        after[new_block:new_block + count] = words[block:block + count]
+        return (new_block, new_granted), after
+
+    model.move_rule = move_rule
+
+
+def copy_one_word_less():
+    """Copies one word less in a move than the shorter block has."""
+    copy_in_move(lambda granted, new_granted, asked: min(granted, new_granted) - 1)
+
+
+def copy_all_old_words():
+    """Copies all the old words in a move, to a shorter block too."""
+    copy_in_move(lambda granted, new_granted, asked: granted)
+
+
+def copy_words_asked():
+    """Copies no more words in a move than were asked for."""
+    copy_in_move(lambda granted, new_granted, asked: min(granted, asked))
+
+
+def stay_in_move():
+    """Leaves the block of a move where it is, if it can stay there."""
+    true_move = model.move_rule
+    model.move_rule = lambda *given: model.stayed(*given) or true_move(*given)
+
+
+def move_in_resize():
+    """Moves the block in a resize that ought to be refused."""
+    model.resize_rule = model.realloc_rule
+
+
+def never_move():
+    """Refuses a realloc with 8 where it ought to move."""
+    model.realloc_rule = model.resize_rule
+
+
+def refuse_resize(wrongly):
+    """Refuses a resize with what `wrongly` makes of the right code, the words and the numbers."""
+    true_resize = model.resize_rule
+
+    def resize_rule(words, block, asked):
+        try:
+            return true_resize(words, block, asked)
+        except model.Refused as refusal:
+            raise model.Refused(wrongly(refusal.code, words, block, asked)) from refusal
+
+    model.resize_rule = resize_rule
+
+
+def would_move_first():
+    """Refuses a resize with 8 before it is looked at whether the request is too large."""
+    def wrongly(code, words, block, asked):
+        return model.WOULD_MOVE if code == model.TOO_LARGE else code
+
+    refuse_resize(wrongly)
+
+
+def no_room_to_resize():
+    """Refuses a resize with 6 where a move would lack room."""
+    def wrongly(code, words, block, asked):
+        return model.relocate(words, block, asked).code or code
+
+    refuse_resize(wrongly)
+
+
+def store_size_early():
+    """Stores the new size of a block before the resize is sure of its room."""
+    def wrongly(code, words, block, asked):
+        if code == model.WOULD_MOVE:
+            words[block - 2] = model.need_of(asked, len(words))
+        return code
+
+    refuse_resize(wrongly)
 
 
 RULE_FAULTS = {"tail": cut_tail_of_two, "believe": believe_words_before, "clear": clear_swallowed_header,
-               "early": free_before_move}
+               "early": free_before_move, "less": copy_one_word_less, "all": copy_all_old_words,
+               "asked": copy_words_asked, "stays": stay_in_move, "moves": move_in_resize, "never": never_move,
+               "order": would_move_first, "lacks": no_room_to_resize, "stores": store_size_early}
 
 
 def board_replies():

@@ -9,20 +9,26 @@ import tempfile
 import cases
 import driver
 import lines
+import model
 import programs
-from comparing import compare_answers, compare_replies
+from comparing import compare_answers, compare_replies, compare_together
 
 LINES = b"010020\n020005\n020001\n05\n03001A\n0Z\n"
 SOUND = [12, 6, 4, 4294967295, 77, 78, 6, 0, 79, 80, 81, 82]
 CASES = [cases.Case(cases.ALLOC, 0, 2, SOUND), cases.Case(cases.VIEW, 4, 0, SOUND), cases.Case(cases.FREE, 4, 0, SOUND)]
+BETWEEN_LIVE = [16, 2, 6, 0, 71, 72, 73, 74, 4, 4294967295, 75, 76, 4, 4294967295, 77, 78]
+
+# What a stand-in can do wrong in a resize, a move, or the realloc that is made of them.
+ANOTHER_LENGTH = ["tail", "early", "less", "all", "asked", "stays", "moves", "never", "order", "lacks", "stores"]
 
 # The drivers, how much each compares here, and the faults of a stand-in for a program that it has to see.
 FAULTS = [
     ("document_rows", 1, "board", ["digit", "missing", "extra", "tail"]),
     ("document_rows", 1, "cases", ["word", "missing", "extra"]),
+    ("call_rows", 1, "cases", ["word", "missing", "extra", "believe", "clear", *ANOTHER_LENGTH]),
     ("pages", 1, "board", ["digit", "missing", "tail"]),
-    ("random_lines", 3000, "board", ["digit", "missing", "extra", "tail", "early", "late"]),
-    ("damaged_arenas", 3000, "cases", ["word", "missing", "extra", "tail", "believe", "clear", "early"]),
+    ("random_lines", 3000, "board", ["digit", "missing", "extra", "tail", "early", "never", "late"]),
+    ("damaged_arenas", 3000, "cases", ["word", "missing", "extra", "believe", "clear", *ANOTHER_LENGTH]),
     ("full_board", 1, "board", ["digit"]),
 ]
 
@@ -57,6 +63,26 @@ def wrong_answers(true):
     yield "nothing at all", b""
 
 
+def together(block, asked, words):
+    """Three calls asked together on these words, and the true replies to them."""
+    three = [cases.Case(call, block, asked, words) for call in cases.TOGETHER]
+    return three, [cases.reply_bytes(cases.answer_to(case)) for case in three]
+
+
+def wrong_together():
+    """Three calls asked together, and replies to them of which one or more are wrong."""
+    three, (resized, relocated, reallocated) = together(4, 3, SOUND)
+    yield "a resize that moves", three, [relocated, relocated, relocated]
+    yield "a relocate that stays", three, [resized, resized, resized]
+    yield "a realloc that moves and need not", three, [resized, relocated, relocated]
+    yield "a realloc with another word than its resize", three, [resized, relocated, reallocated[:-4] + resized[:4]]
+    three, (refused, relocated, reallocated) = together(10, 3, BETWEEN_LIVE)
+    too_large = cases.packed([model.TOO_LARGE]) + refused[4:]
+    yield "a realloc refused with 8", three, [refused, relocated, refused]
+    yield "a realloc with another word than its move", three, [refused, relocated, reallocated[:-4] + refused[:4]]
+    yield "a resize that would move what is too large", three, [refused, too_large, too_large]
+
+
 def check_comparers():
     """Each wrong output must be seen, and the true ones taken; gives how many were tried."""
     replies = lines.output_for(LINES)
@@ -66,6 +92,9 @@ def check_comparers():
     tried += [(what, complains(compare_answers, CASES, answers, wrong)) for what, wrong in wrong_answers(written)]
     tried += [("the true replies", not complains(compare_replies, LINES, replies, replies))]
     tried += [("the true answers", not complains(compare_answers, CASES, answers, written))]
+    tried += [(what, complains(compare_together, three, b"".join(wrong))) for what, three, wrong in wrong_together()]
+    for three, true in (together(4, 3, SOUND), together(10, 3, BETWEEN_LIVE)):
+        tried += [("the true replies together", not complains(compare_together, three, b"".join(true)))]
     wrong_about = [what for what, right in tried if not right]
     if wrong_about:
         raise driver.Difference(f"the comparers are wrong about: {wrong_about}")

@@ -1,4 +1,4 @@
--- What each call comes to, case by case: it is refused for a reason, and what the reason says is so, or it is done. `Regranting` has realloc.
+-- What each call comes to, case by case: it is refused for a reason, and what the reason says is so, or it is done. `Regranting` has resize, relocate and realloc.
 use mathlib.Core.Path.{_≡_, refl}
 use mathlib.Core.Bool.{Bool, true, false, cond}
 use mathlib.Core.List.{List, [], _∷_, _++_}
@@ -48,7 +48,7 @@ unfolding allocBy
 alloc-case a n = go (checked a) (asked (length a) n) (fitting-told a (need n))
   where
     go : {arena request : Gate} {gap : Spot} → Checked a arena → Asked (length a) n request → Fitting a (need n) gap
-        → Case 2 a (AllocRefused a n) (Allots a n) (settle 2 a (pass arena (pass request (granted (allotted (grantFrom (need n) gap) a)))))
+        → Case 2 a (AllocRefused a n) (Allots a n) (settle 2 a (pass arena (pass request (granted NoRoom (allotted (grantFrom (need n) gap) a)))))
     go (unlawful e) q g = refuses Length e
     go (damaged e f) q g = refuses Damaged (e, f)
     go (whole e) (for-none z) g = refuses Zero (e, z)

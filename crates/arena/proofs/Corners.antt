@@ -1,4 +1,4 @@
--- Two sentences of document 01 that the calls' definitions say only together: where realloc writes nothing, and where a view is empty.
+-- Sentences of the rules that the calls' definitions say only together: where resize and realloc write nothing, that a resize keeps the block's number, and where a view is empty.
 use mathlib.Core.Path.{_≡_, refl, ap, _∙_}
 use mathlib.Core.Logic.{_≢_, _↔_}
 use mathlib.Core.Bool.{true, false}
@@ -10,28 +10,40 @@ use borrow.Author.Tests.{le-leb, lt-leb}
 use Rattle.layout.specs.Numbers.{firstChunk, headerWords, leastSplit, need}
 use Rattle.layout.specs.Chunks.{Chunk, live, total, written}
 use Rattle.layout.specs.Walk.{sound}
+use Rattle.layout.specs.declared.Reason.{Reason}
+use Rattle.layout.specs.declared.Reason.the-variants.{NoRoom, WouldMove}
 use Rattle.layout.proofs.Holds.{sizes-split, total-append}
 use Rattle.layout.proofs.Reasons.{number-positive}
 use Rattle.layout.proofs.Written.{Arena, written-fixed}
 use Rattle.layout.proofs.Round.{sound-chunks}
 use Rattle.arena.specs.Answers.{Outcome}
-use Rattle.arena.specs.Calls.{reallocOn, sizeOn, viewOn}
+use Rattle.arena.specs.Rules.{orElse, shrink, grow, move, grantedAt, Regrant}
+use Rattle.arena.specs.Calls.{regrantBy, resizeOn, reallocOn, sizeOn, viewOn}
 use Rattle.arena.proofs.Joining.{joined-spaced}
 use Rattle.arena.proofs.Blocks.{BlockAt, block-held}
-use Rattle.arena.proofs.Causes.{Request, BlockRefused}
+use Rattle.arena.proofs.Causes.{Request, BlockRefused, ResizeRefused}
 use Rattle.arena.proofs.Cases.{Case, refuses, does, Measures, measures, size-case}
+use Rattle.arena.proofs.Regranting.{Resizes, shrinks, grows, resize-case}
 use Rattle.arena.proofs.Gates.{sound-gate, request-gate}
 
 module _ (a : List ℕ) (b : ℕ) (pre : List Chunk) (s : ℕ) (post : List Chunk) (e : sound a ≡ true) (is : BlockAt a b pre s post) where
   arena : Arena a (pre ++ live s ∷ post)
   arena = rw (is .same) at (sound-chunks a e)
 
-  -- "If 0 or 2 are over, nothing is written."
-  pub realloc-keeps : (n : ℕ) → Request a n → need n ≤ s → s - need n < leastSplit → reallocOn a b n .words ≡ a
-  unfolding reallocOn
-  realloc-keeps n r enough few =
+  -- a call that tries way 1 before anything else
+  way-1-keeps : (why : Reason) (rest : Regrant) (n : ℕ) → Request a n → need n ≤ s → s - need n < leastSplit
+      → regrantBy why (λ b need spot new a. orElse (shrink b need spot a) (rest b need spot new a)) a b n .words ≡ a
+  unfolding regrantBy
+  way-1-keeps why rest n r enough few =
       rw (sound-gate a e, block-held a b pre s post e is, request-gate a n r, le-leb (need n) s enough, lt-leb leastSplit (s - need n) few)
       (ap (λ (ks : List Chunk). written ks a) (joined-spaced false _ (arena .law .spaced)) ∙ written-fixed (pre ++ live s ∷ post) a arena)
+
+  -- "If 0 or 2 are over, nothing is written."
+  pub resize-keeps : (n : ℕ) → Request a n → need n ≤ s → s - need n < leastSplit → resizeOn a b n .words ≡ a
+  resize-keeps = way-1-keeps WouldMove (λ b need spot new a. grow b need spot a)
+
+  pub realloc-keeps : (n : ℕ) → Request a n → need n ≤ s → s - need n < leastSplit → reallocOn a b n .words ≡ a
+  realloc-keeps = way-1-keeps NoRoom (λ b need spot new a. orElse (grow b need spot a) (move b (grantedAt spot) new a))
 
   -- a block has words
   block-words : take (s - headerWords) (drop b a) ≢ []
@@ -48,3 +60,12 @@ view-empty a b = go (size-case a b)
     go : {outcome : Outcome} → Case 1 a (BlockRefused a b) (Measures a b) outcome → (take (getD (outcome .answer .values) 0 0) (drop b a) ≡ []) ↔ (outcome .answer .code ≢ 0)
     go (refuses why r) = (λ empty code. omega (arith, number-positive why), λ code. refl)
     go (does (measures e pre s post is)) = (λ empty code. block-words a b pre s post e is empty, λ code. absurd (code refl))
+
+-- a resize that is done answers the number that it was given
+pub resize-stays : (a : List ℕ) (b n : ℕ) → resizeOn a b n .answer .code ≡ 0 → getD (resizeOn a b n .answer .values) 0 0 ≡ b
+resize-stays a b n = go (resize-case a b n)
+  where
+    go : {outcome : Outcome} → Case 2 a (ResizeRefused a b n) (Resizes a b n) outcome → outcome .answer .code ≡ 0 → getD (outcome .answer .values) 0 0 ≡ b
+    go (refuses why r) code = absurd (omega (arith, number-positive why))
+    go (does (shrinks e r pre s post is l)) code = refl
+    go (does (grows e r pre s t post is l m)) code = refl

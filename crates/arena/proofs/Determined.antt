@@ -7,7 +7,7 @@ use Rattle.layout.specs.Reasons.{number}
 use Rattle.layout.specs.declared.Reason.{Reason}
 use Rattle.layout.proofs.Reasons.{number-positive, number-injective}
 use Rattle.arena.specs.Answers.{Answer, finishNumbers, grantedNumbers, sizedNumbers, reportedNumbers, Outcome, Gives}
-use Rattle.arena.specs.Calls.{startOn, allocOn, freeOn, reallocOn, sizeOn, Views, reportOn}
+use Rattle.arena.specs.Calls.{startOn, allocOn, freeOn, resizeOn, relocateOn, reallocOn, sizeOn, Views, reportOn}
 use Rattle.arena.specs.declared.Finish.{Finish}
 use Rattle.arena.specs.declared.Finish.the-variants.{Done, Refused as NotDone}
 use Rattle.arena.specs.declared.Granted.{Granted}
@@ -73,6 +73,12 @@ alloc-determined a n = determined grantedNumbers granted-injective (allocOn a n)
 
 pub free-determined : (a : List ℕ) (b : ℕ) → Determined finishNumbers (freeOn a b)
 free-determined a b = determined finishNumbers finish-injective (freeOn a b)
+
+pub resize-determined : (a : List ℕ) (b n : ℕ) → Determined grantedNumbers (resizeOn a b n)
+resize-determined a b n = determined grantedNumbers granted-injective (resizeOn a b n)
+
+pub relocate-determined : (a : List ℕ) (b n : ℕ) → Determined grantedNumbers (relocateOn a b n)
+relocate-determined a b n = determined grantedNumbers granted-injective (relocateOn a b n)
 
 pub realloc-determined : (a : List ℕ) (b n : ℕ) → Determined grantedNumbers (reallocOn a b n)
 realloc-determined a b n = determined grantedNumbers granted-injective (reallocOn a b n)

@@ -16,16 +16,16 @@ use Rattle.layout.proofs.Round.{sound-chunks, written-sound}
 use Rattle.arena.specs.Answers.{Outcome}
 use Rattle.arena.specs.Spots.{held}
 use Rattle.arena.specs.Rules.{splits, trim, joined, released, copied}
-use Rattle.arena.specs.Calls.{startOn, allocOn, freeOn, reallocOn}
+use Rattle.arena.specs.Calls.{startOn, allocOn, freeOn, resizeOn, relocateOn, reallocOn}
 use Rattle.arena.specs.Inside.Places.{Needed}
 use Rattle.arena.proofs.Gates.{sound-lawful, request-needed}
 use Rattle.arena.proofs.Taking.{cut-lawful}
 use Rattle.arena.proofs.Copying.{length-copied}
 use Rattle.arena.proofs.Joining.{joined-lawful}
-use Rattle.arena.proofs.Relocating.{Relocated, relocated}
+use Rattle.arena.proofs.Relocating.{Relocated, relocates}
 use Rattle.arena.proofs.Starting.{whole-lawful}
 use Rattle.arena.proofs.Cases.{Case, refuses, does, Starts, starts, start-case, Allots, allots, alloc-case, Frees, frees, free-case}
-use Rattle.arena.proofs.Regranting.{Regrants, shrinks, grows, moves, realloc-case}
+use Rattle.arena.proofs.Regranting.{Resizes, shrinks, grows, Relocates, moves, Regrants, in-place, elsewhere, resize-case, relocate-case, realloc-case}
 
 -- the words `after` are an arena as the words `a` were
 record Kept (a after : List ℕ) : Type 0 where
@@ -76,10 +76,10 @@ module _ (a : List ℕ) (e : sound a ≡ true) where
       go false e = joined-lawful (length a) pre old (live words ∷ []) post l (even, omega (arith, n .least), tt) (omega arith)
 
 -- a block moves
-moved-kept : (a : List ℕ) (b block s : ℕ) (ks : List Chunk) → Relocated (copied b block (s - headerWords) (written ks a)) b s ks
-    → Kept a (written (released (held b ks)) (copied b block (s - headerWords) (written ks a)))
-moved-kept a b block s ks r =
-    let freed = written-kept _ _ (freed-lawful (copied b block (s - headerWords) (written ks a)) (r .is-sound) (r .pre) s (r .post) (r .old .same)) in
+moved-kept : (a : List ℕ) (b block count s : ℕ) (ks : List Chunk) → Relocated (copied b block count (written ks a)) b s ks
+    → Kept a (written (released (held b ks)) (copied b block count (written ks a)))
+moved-kept a b block count s ks r =
+    let freed = written-kept _ _ (freed-lawful (copied b block count (written ks a)) (r .is-sound) (r .pre) s (r .post) (r .old .same)) in
     rw (r .leaves)
     (record {
       same-length = freed .same-length ∙ length-copied _ _ _ _ ∙ length-written ks a;
@@ -108,16 +108,29 @@ module _ (a : List ℕ) where
       go : (values after : List ℕ) → Frees a b values after → Kept a after
       go values after (frees e pre s post is) = written-kept _ a (freed-lawful a e pre s post (is .same))
 
+  resizes-kept : (b n : ℕ) (values after : List ℕ) → Resizes a b n values after → Kept a after
+  resizes-kept b n values after (shrinks e r pre s post is l) =
+      written-kept _ a (trimmed-lawful a e pre (live s ∷ []) post s (need n) (is .same) (omega arith) (request-needed (length a) n (sound-lawful a e) r) l)
+  resizes-kept b n values after (grows e r pre s t post is l m) =
+      written-kept _ a (trimmed-lawful a e pre (live s ∷ free t ∷ []) post (s + t) (need n) (is .same) (omega arith) (request-needed (length a) n (sound-lawful a e) r) m)
+
+  relocates-kept : (b n : ℕ) (values after : List ℕ) → Relocates a b n values after → Kept a after
+  relocates-kept b n values after (moves e r pre s post is before g behind gap block at-is ks same count shorter) =
+      moved-kept a b block count s ks
+      (relocates a (need n) pre s post before g behind b block count ks e (request-needed (length a) n (sound-lawful a e) r) is gap (omega arith) (omega arith) at-is same)
+
+  resize-kept : (b n : ℕ) → Kept a (resizeOn a b n .words)
+  resize-kept b n = kept (resizes-kept b n) (resize-case a b n)
+
+  relocate-kept : (b n : ℕ) → Kept a (relocateOn a b n .words)
+  relocate-kept b n = kept (relocates-kept b n) (relocate-case a b n)
+
   realloc-kept : (b n : ℕ) → Kept a (reallocOn a b n .words)
   realloc-kept b n = kept go (realloc-case a b n)
     where
       go : (values after : List ℕ) → Regrants a b n values after → Kept a after
-      go values after (shrinks e r pre s post is l) =
-          written-kept _ a (trimmed-lawful a e pre (live s ∷ []) post s (need n) (is .same) (omega arith) (request-needed (length a) n (sound-lawful a e) r) l)
-      go values after (grows e r pre s t post is l m) =
-          written-kept _ a (trimmed-lawful a e pre (live s ∷ free t ∷ []) post (s + t) (need n) (is .same) (omega arith) (request-needed (length a) n (sound-lawful a e) r) m)
-      go values after (moves e r pre s post is l before g behind gap block at-is ks same) =
-          moved-kept a b block s ks (relocated a (need n) pre s post before g behind b block ks e (request-needed (length a) n (sound-lawful a e) r) is gap (l .own) at-is same)
+      go values after (in-place d) = resizes-kept b n values after d
+      go values after (elsewhere short d) = relocates-kept b n values after d
 
   -- ---- the number of words
 
@@ -130,6 +143,12 @@ module _ (a : List ℕ) where
   pub free-length : (b : ℕ) → length (freeOn a b .words) ≡ length a
   free-length b = free-kept b .same-length
 
+  pub resize-length : (b n : ℕ) → length (resizeOn a b n .words) ≡ length a
+  resize-length b n = resize-kept b n .same-length
+
+  pub relocate-length : (b n : ℕ) → length (relocateOn a b n .words) ≡ length a
+  relocate-length b n = relocate-kept b n .same-length
+
   pub realloc-length : (b n : ℕ) → length (reallocOn a b n .words) ≡ length a
   realloc-length b n = realloc-kept b n .same-length
 
@@ -140,6 +159,12 @@ module _ (a : List ℕ) where
 
   pub free-sound : (b : ℕ) → sound a ≡ true → sound (freeOn a b .words) ≡ true
   free-sound b = free-kept b .still-sound
+
+  pub resize-sound : (b n : ℕ) → sound a ≡ true → sound (resizeOn a b n .words) ≡ true
+  resize-sound b n = resize-kept b n .still-sound
+
+  pub relocate-sound : (b n : ℕ) → sound a ≡ true → sound (relocateOn a b n .words) ≡ true
+  relocate-sound b n = relocate-kept b n .still-sound
 
   pub realloc-sound : (b n : ℕ) → sound a ≡ true → sound (reallocOn a b n .words) ≡ true
   realloc-sound b n = realloc-kept b n .still-sound

@@ -22,7 +22,9 @@ pub mod Blocks
 pub mod Causes
 pub mod Cases
 pub mod Regranting
+pub mod Targeting
 pub mod Refusing
+pub mod Reallocating
 pub mod Starting
 pub mod Keeping
 pub mod Reasons

@@ -3,7 +3,7 @@ use mathlib.Core.Path.{_≡_, refl, sym, ap, _∙_}
 use mathlib.Core.Logic.{_⊎_, inl, inr, ⊎-elim}
 use mathlib.Core.Bool.{Bool, true, false, cond}
 use mathlib.Core.List.{List, [], _∷_, _++_, append-assoc, head-eq-of-cons-eq, tail-eq-of-cons-eq}
-use Prim.Native.Nat.{ℕ, zero, suc, _+_, _-_, _≤_, _<_}
+use Prim.Native.Nat.{ℕ, zero, suc, _+_, _-_, _≤_, _<_, min}
 use native.Mathlib.Omega.{arith}
 use lib.Dec.{leb, eqb}
 use lib.ListN.{length}
@@ -17,9 +17,9 @@ use Rattle.layout.proofs.Written.{Arena, written-arena, length-written}
 use Rattle.layout.proofs.Round.{arena-sound, arena-chunks}
 use Rattle.layout.proofs.Inside.{store-inside}
 use Rattle.arena.specs.Spots.{at, isBlock, held, firstFit}
-use Rattle.arena.specs.Rules.{taken, cut, copied, grantFrom, move, released}
+use Rattle.arena.specs.Rules.{taken, cut, copied, grantFrom, move, relocated, released}
 use Rattle.arena.specs.Inside.Places.{Stands, Needed}
-use Rattle.arena.specs.Inside.Ways.{Follows, Took, grantsOf}
+use Rattle.arena.specs.Inside.Ways.{Follows, Took, wayBy, grantsOf}
 use Rattle.arena.specs.Inside.Moves.{Beside, linkAfter}
 use Rattle.arena.specs.declared.grant.Way.the-variants.{Grants}
 use Rattle.arena.specs.declared.grant.Piece.{Piece}
@@ -209,9 +209,9 @@ module _ (a : List ℕ) (pre : List Chunk) (s : ℕ) (post : List Chunk) (link c
   apart (gap-above mid u v) = inl (let t : total before ≡ total pre + (s + total mid) = ap total u ∙ total-append pre (live s ∷ mid) in omega (arith, st .at-is, sg .at-is))
   apart (gap-below mid u v) = inr (let t : total pre ≡ total before + (g + total mid) = ap total u ∙ total-append before (free g ∷ mid) in omega (arith, st .at-is, sg .at-is))
 
-  module _ (longer : s < need) where
-    -- the old words are copied
-    pub moved-beside : Beside (length (written (before ++ (cut need g ++ after)) a)) (chunk + headerWords) (gap + (g - taken need g) + headerWords) (s - headerWords)
+  -- as many words are copied as both blocks have, or fewer
+  module _ (count : ℕ) (own : count ≤ s - headerWords) (room : count ≤ taken need g - headerWords) where
+    pub moved-beside : Beside (length (written (before ++ (cut need g ++ after)) a)) (chunk + headerWords) (gap + (g - taken need g) + headerWords) count
     moved-beside =
         let c = cut-numbers need g fits in
         let r = reads a pre (live s) post link chunk st in
@@ -224,17 +224,17 @@ module _ (a : List ℕ) (pre : List Chunk) (s : ℕ) (post : List Chunk) (link c
           apart = ⊎-elim (λ h. inl (omega arith)) (λ h. inr (omega arith)) (apart (order pre s post before g after (sym (st .same) ∙ sg .same)));
         }
 
-    moved-arena : Arena (copied (chunk + headerWords) (gap + (g - taken need g) + headerWords) (s - headerWords) (written (before ++ (cut need g ++ after)) a)) (before ++ (cut need g ++ after))
+    moved-arena : Arena (copied (chunk + headerWords) (gap + (g - taken need g) + headerWords) count (written (before ++ (cut need g ++ after)) a)) (before ++ (cut need g ++ after))
     moved-arena =
         let c = cut-numbers need g fits in
         let r = reads a pre (live s) post link chunk st in
         let t : total (before ++ uncut need g) ≡ total before + total (uncut need g) = total-append before (uncut need g) in
         rw cut-chunks
-        (copied-arena (chunk + headerWords) (gap + (g - taken need g) + headerWords) (s - headerWords) _ (before ++ uncut need g) (live (taken need g)) after (gap + (g - taken need g))
+        (copied-arena (chunk + headerWords) (gap + (g - taken need g) + headerWords) count _ (before ++ uncut need g) (live (taken need g)) after (gap + (g - taken need g))
         (rw cut-chunks at granted-arena) (omega (arith, sg .at-is)) (omega arith) (omega arith))
 
     -- the old block stands where it stood
-    pub moved-stands : Stands (copied (chunk + headerWords) (gap + (g - taken need g) + headerWords) (s - headerWords) (written (before ++ (cut need g ++ after)) a))
+    pub moved-stands : Stands (copied (chunk + headerWords) (gap + (g - taken need g) + headerWords) count (written (before ++ (cut need g ++ after)) a))
         (beyond .pre) (live s) (beyond .post) (linkAfter link gapLink gap (gap + (g - taken need g))) chunk
     moved-stands =
         record {
@@ -245,31 +245,30 @@ module _ (a : List ℕ) (pre : List Chunk) (s : ℕ) (post : List Chunk) (link c
         }
 
     -- the old block is freed
-    pub moved : firstFit need (chunksOf a) ≡ at before (free g) after
-        → Follows (move (chunk + headerWords) (s - headerWords) (grantFrom need (firstFit need (chunksOf a))) a) a (Grants (gap + (g - taken need g) + headerWords) (taken need g - headerWords))
+    pub moved :
+        Follows (move (chunk + headerWords) count (grantFrom need (at before (free g) after)) a) a (Grants (gap + (g - taken need g) + headerWords) (taken need g - headerWords))
         (written (released (at (beyond .pre) (live s) (beyond .post)))
-        (copied (chunk + headerWords) (gap + (g - taken need g) + headerWords) (s - headerWords) (written (before ++ (cut need g ++ after)) a)))
-    moved e =
+        (copied (chunk + headerWords) (gap + (g - taken need g) + headerWords) count (written (before ++ (cut need g ++ after)) a)))
+    moved =
         let z : Sizes (beyond .pre ++ live s ∷ beyond .post) = rw (beyond .same) at (granted-arena .law .sizes) in
         let h : held (chunk + headerWords) (before ++ (cut need g ++ after)) ≡ at (beyond .pre) (live s) (beyond .post) =
         ap (held (chunk + headerWords)) (beyond .same) ∙ held-at (beyond .pre) s (beyond .post) chunk (sizes-split (beyond .pre) (live s ∷ beyond .post) z .0) (beyond .at-is) in
-        rw (e, ← sg .at-is, h) (record { answers = refl; leaves = refl })
+        rw (← sg .at-is, h) (record { answers = refl; leaves = refl })
 
-    -- ---- the same in the code's terms: `piece` was taken, `granted` are the words then, `count` words are copied
-
-    module _ (piece : Piece) (granted : List ℕ) (t : Took a before g after need piece granted) (count : ℕ) (all : count ≡ s - headerWords) where
+    -- the same in the code's terms: `piece` was taken, and `granted` are the words then
+    module _ (piece : Piece) (granted : List ℕ) (t : Took a before g after need piece granted) where
       starts : piece .chunk ≡ gap + (g - taken need g)
       starts = t .starts ∙ ap (λ (c : ℕ). c + (g - taken need g)) (sym (sg .at-is))
 
       pub took-beside : Beside (length granted) (chunk + headerWords) (piece .chunk + headerWords) count
-      took-beside = rw (starts, t .leaves, all) moved-beside
+      took-beside = rw (starts, t .leaves) moved-beside
 
       pub took-stands : (words : List ℕ) → words ≡ copied (chunk + headerWords) (piece .chunk + headerWords) count granted
           → Stands words (beyond .pre) (live s) (beyond .post) (linkAfter link gapLink gap (piece .chunk)) chunk
-      took-stands words e = rw (e, starts, t .leaves, all) moved-stands
+      took-stands words e = rw (e, starts, t .leaves) moved-stands
 
-      pub took-moved : firstFit need (chunksOf a) ≡ at before (free g) after
+      pub took-moved : firstFit need (chunksOf a) ≡ at before (free g) after → count ≡ min (s - headerWords) (taken need g - headerWords)
           → (words : List ℕ) → words ≡ copied (chunk + headerWords) (piece .chunk + headerWords) count granted
           → (freed : List ℕ) → freed ≡ written (released (at (beyond .pre) (live s) (beyond .post))) words
-          → Follows (move (chunk + headerWords) (s - headerWords) (grantFrom need (firstFit need (chunksOf a))) a) a (grantsOf piece) freed
-      took-moved spot words e freed f = rw (f, e, starts, t .has, t .leaves, all) (moved spot)
+          → Follows (wayBy relocated (chunk + headerWords) need a pre s post) a (grantsOf piece) freed
+      took-moved spot shorter words e freed f = rw (spot, ← shorter, f, e, starts, t .has, t .leaves) moved

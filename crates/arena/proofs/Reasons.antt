@@ -3,25 +3,25 @@ use mathlib.Core.Path.{_≡_, refl, sym, _∙_, subst}
 use mathlib.Core.Logic.{_↔_}
 use mathlib.Core.Bool.{true, false, true≢false}
 use mathlib.Core.List.{List, [], _∷_}
-use Prim.Native.Nat.{ℕ, _-_}
+use Prim.Native.Nat.{ℕ}
 use native.Mathlib.Omega.{arith}
 use lib.ListN.{length}
-use Rattle.layout.specs.Numbers.{headerWords, lawful, need}
+use Rattle.layout.specs.Numbers.{lawful, need}
 use Rattle.layout.specs.Chunks.{Chunk, written}
 use Rattle.layout.specs.Walk.{sound, chunksOf}
 use Rattle.layout.specs.Reasons.{number, arenaGate}
 use Rattle.layout.specs.declared.Reason.{Reason}
-use Rattle.layout.specs.declared.Reason.the-variants.{Length, Damaged, NotABlock, Zero, TooLarge, NoRoom, Frame}
+use Rattle.layout.specs.declared.Reason.the-variants.{Length, Damaged, NotABlock, Zero, TooLarge, NoRoom, Frame, WouldMove}
 use Rattle.layout.proofs.Reasons.{number-positive, number-injective}
 use Rattle.arena.specs.Answers.{Outcome, done, settle, pass}
-use Rattle.arena.specs.Spots.{nowhere, held}
-use Rattle.arena.specs.Rules.{Way, orElse, released, grantedAt, grantFrom, move}
-use Rattle.arena.specs.Calls.{onBlock, granted, startOn, allocBy, allocOn, freeOn, reallocOn, sizeOn, reportOn}
+use Rattle.arena.specs.Spots.{held}
+use Rattle.arena.specs.Rules.{Way, orElse, released, grantedAt, Regrant, regranted, resized, relocated}
+use Rattle.arena.specs.Calls.{onBlock, granted, startOn, allocBy, allocOn, freeOn, regrantBy, resizeOn, relocateOn, reallocOn, sizeOn, reportOn}
 use Rattle.arena.proofs.Gates.{sound-lawful, unlawful-gate, damaged-gate, sound-gate, zero-gate, large-gate, request-gate}
 use Rattle.arena.proofs.Blocks.{no-block-held, block-held, no-gap-fits}
-use Rattle.arena.proofs.Causes.{Grounds, Short, StartRefused, ReportRefused, BlockRefused, AllocRefused, ReallocRefused}
+use Rattle.arena.proofs.Causes.{Grounds, Short, StartRefused, ReportRefused, BlockRefused, AllocRefused, RegrantRefused, ResizeRefused, RelocateRefused, ReallocRefused}
 use Rattle.arena.proofs.Cases.{Case, refuses, does, start-case, alloc-case, free-case, size-case, report-case}
-use Rattle.arena.proofs.Regranting.{Stays, by-own, by-next, by-none, stays-told, realloc-case}
+use Rattle.arena.proofs.Regranting.{Stays, by-own, by-next, by-none, stays-told, resize-case, relocate-case, three-ways, realloc-case}
 
 -- ---- the reason that is given is so
 
@@ -36,23 +36,25 @@ module _ {fields : ℕ} {a : List ℕ} {Refuses : Reason → Type 0} {Does : Lis
   done-unless gives (refuses r s) = (λ e why so. omega (arith, number-positive r), λ none. absurd (none r s))
   done-unless gives (does d) = (λ e why so. omega (arith, gives why so, number-positive why), λ none. refl)
 
--- ---- the first two reasons, and the last
+-- ---- the first two reasons, and the last two
 
-module _ (a : List ℕ) (block zero large room : Type 0) where
+module _ (a : List ℕ) (block zero large room stuck : Type 0) where
   -- a call that gives one of the first two has an unlawful length, or an arena that is not sound
-  pub arena-refused : {code : ℕ} → ((why : Reason) → code ≡ number why → Grounds a block zero large room why)
+  pub arena-refused : {code : ℕ} → ((why : Reason) → code ≡ number why → Grounds a block zero large room stuck why)
       → (code ≡ number Length → lawful (length a) ≡ false) × (code ≡ number Damaged → sound a ≡ false)
   arena-refused f = (f Length, λ e. f Damaged e .1)
 
-  -- on a sound arena, where block and request give no reason, want of room is left
-  pub only-room : sound a ≡ true → (block → ⊥) → (zero → ⊥) → (large → ⊥) → (why : Reason) → Grounds a block zero large room why → room
-  only-room e b z m Length l = absurd (true≢false (sym (sound-lawful a e) ∙ l))
-  only-room e b z m Damaged h = absurd (true≢false (sym e ∙ h .1))
-  only-room e b z m NotABlock h = absurd (b (h .1))
-  only-room e b z m Zero h = absurd (z (h .1))
-  only-room e b z m TooLarge h = absurd (m (h .1))
-  only-room e b z m NoRoom h = h .1
-  only-room e b z m Frame h = absurd h
+  -- on a sound arena, where block and request give no reason, one of the last two is left
+  pub only-last : sound a ≡ true → (block → ⊥) → (zero → ⊥) → (large → ⊥) → (Last : Type 0) → (room → Last) → (stuck → Last)
+      → (why : Reason) → Grounds a block zero large room stuck why → Last
+  only-last e b z m Last full held Length l = absurd (true≢false (sym (sound-lawful a e) ∙ l))
+  only-last e b z m Last full held Damaged h = absurd (true≢false (sym e ∙ h .1))
+  only-last e b z m Last full held NotABlock h = absurd (b (h .1))
+  only-last e b z m Last full held Zero h = absurd (z (h .1))
+  only-last e b z m Last full held TooLarge h = absurd (m (h .1))
+  only-last e b z m Last full held NoRoom h = full (h .1)
+  only-last e b z m Last full held Frame h = absurd h
+  only-last e b z m Last full held WouldMove h = held (h .1)
 
 -- ---- the reason that is so is given
 
@@ -70,6 +72,7 @@ module _ (a : List ℕ) where
   report-gives TooLarge (e, h) = absurd h
   report-gives NoRoom (e, h) = absurd h
   report-gives Frame h = absurd h
+  report-gives WouldMove (e, h) = absurd h
 
   -- free and size
   block-gives : (b fields : ℕ) (values after : List ℕ) (why : Reason) → BlockRefused a b why
@@ -81,6 +84,7 @@ module _ (a : List ℕ) where
   block-gives b fields values after TooLarge (e, h) = absurd h
   block-gives b fields values after NoRoom (e, h) = absurd h
   block-gives b fields values after Frame h = absurd h
+  block-gives b fields values after WouldMove (e, h) = absurd h
 
   free-gives : (b : ℕ) (why : Reason) → BlockRefused a b why → freeOn a b .answer .code ≡ number why
   unfolding freeOn
@@ -99,23 +103,43 @@ module _ (a : List ℕ) where
   alloc-gives n TooLarge (e, m) = rw (sound-gate a e, large-gate a n m)
   alloc-gives n NoRoom (e, (r, h)) = rw (sound-gate a e, request-gate a n r, no-gap-fits a (need n) h)
   alloc-gives n Frame h = absurd h
+  alloc-gives n WouldMove (e, h) = absurd h
 
-  realloc-gives : (b n : ℕ) (why : Reason) → ReallocRefused a b n why → reallocOn a b n .answer .code ≡ number why
-  unfolding reallocOn
-  realloc-gives b n Length l = rw (unlawful-gate a l)
-  realloc-gives b n Damaged (l, s) = rw (damaged-gate a l s)
-  realloc-gives b n NotABlock (e, h) = rw (sound-gate a e, no-block-held a b h)
-  realloc-gives b n Zero (e, ((pre, s, post, is), z)) = rw (sound-gate a e, block-held a b pre s post e is, zero-gate a n z)
-  realloc-gives b n TooLarge (e, ((pre, s, post, is), m)) = rw (sound-gate a e, block-held a b pre s post e is, large-gate a n m)
-  realloc-gives b n NoRoom (e, (r, (pre, s, post, is, l), h)) =
-      rw (sound-gate a e, block-held a b pre s post e is, request-gate a n r, no-gap-fits a (need n) h) (go l (stays-told a b (need n) pre s post))
+  -- a call that grants a block anew: its own are the last two
+  regrant-gives : (b n : ℕ) (last : Reason) (rule : Regrant) (room stuck : Type 0) → let code = regrantBy last rule a b n .answer .code in
+      ((sound a ≡ true) × room → code ≡ number NoRoom) → ((sound a ≡ true) × stuck → code ≡ number WouldMove)
+      → (why : Reason) → RegrantRefused a b n room stuck why → code ≡ number why
+  unfolding regrantBy
+  regrant-gives b n last rule room stuck full held Length l = rw (unlawful-gate a l)
+  regrant-gives b n last rule room stuck full held Damaged (l, s) = rw (damaged-gate a l s)
+  regrant-gives b n last rule room stuck full held NotABlock (e, h) = rw (sound-gate a e, no-block-held a b h)
+  regrant-gives b n last rule room stuck full held Zero (e, ((pre, s, post, is), z)) = rw (sound-gate a e, block-held a b pre s post e is, zero-gate a n z)
+  regrant-gives b n last rule room stuck full held TooLarge (e, ((pre, s, post, is), m)) = rw (sound-gate a e, block-held a b pre s post e is, large-gate a n m)
+  regrant-gives b n last rule room stuck full held NoRoom h = full h
+  regrant-gives b n last rule room stuck full held Frame h = absurd h
+  regrant-gives b n last rule room stuck full held WouldMove h = held h
+
+  resize-gives : (b n : ℕ) (why : Reason) → ResizeRefused a b n why → resizeOn a b n .answer .code ≡ number why
+  unfolding regrantBy
+  resize-gives b n = regrant-gives b n WouldMove resized _ _ (λ h. absurd (h .1)) (λ (e, (r, (pre, s, post, is, l))). rw (sound-gate a e, block-held a b pre s post e is, request-gate a n r) (go l (stays-told a b (need n) pre s post)))
     where
       go : {pre post : List Chunk} {s : ℕ} {first second : Way} → Short s post (need n) → Stays a b (need n) pre s post first second
-          → settle 2 a (granted (orElse first (orElse second (move b (s - headerWords) (grantFrom (need n) nowhere) a)))) .answer .code ≡ number NoRoom
+          → settle 2 a (granted WouldMove (orElse first second)) .answer .code ≡ number WouldMove
       go l (by-own m) = absurd (omega arith)
       go l (by-next {t} {post} m k) = absurd (omega (arith, l .with-next t post refl))
       go l (by-none m) = refl
-  realloc-gives b n Frame h = absurd h
+
+  relocate-gives : (b n : ℕ) (why : Reason) → RelocateRefused a b n why → relocateOn a b n .answer .code ≡ number why
+  unfolding regrantBy
+  relocate-gives b n = regrant-gives b n NoRoom relocated _ _ (λ (e, (r, (pre, s, post, is), h)). rw (sound-gate a e, block-held a b pre s post e is, request-gate a n r, no-gap-fits a (need n) h)) (λ h. absurd (h .1))
+
+  -- realloc gives the resize's reason or, where the resize would move, the move's
+  realloc-gives : (b n : ℕ) (why : Reason) → ReallocRefused a b n why → reallocOn a b n .answer .code ≡ number why
+  realloc-gives b n =
+      regrant-gives b n NoRoom regranted _ _
+      (λ (e, (r, short, h)). let (pre, s, post, is, l) = short in
+      rw (← three-ways a b n, resize-gives b n WouldMove (e, (r, short)), relocate-gives b n NoRoom (e, (r, (pre, s, post, is), h))))
+      (λ h. absurd (h .1))
 
 -- ---- the calls
 
@@ -128,6 +152,12 @@ module _ (a : List ℕ) where
 
   pub free-refused : (b : ℕ) (why : Reason) → (freeOn a b .answer .code ≡ number why) ↔ BlockRefused a b why
   free-refused b why = (refused-for why (free-case a b), free-gives a b why)
+
+  pub resize-refused : (b n : ℕ) (why : Reason) → (resizeOn a b n .answer .code ≡ number why) ↔ ResizeRefused a b n why
+  resize-refused b n why = (refused-for why (resize-case a b n), resize-gives a b n why)
+
+  pub relocate-refused : (b n : ℕ) (why : Reason) → (relocateOn a b n .answer .code ≡ number why) ↔ RelocateRefused a b n why
+  relocate-refused b n why = (refused-for why (relocate-case a b n), relocate-gives a b n why)
 
   pub realloc-refused : (b n : ℕ) (why : Reason) → (reallocOn a b n .answer .code ≡ number why) ↔ ReallocRefused a b n why
   realloc-refused b n why = (refused-for why (realloc-case a b n), realloc-gives a b n why)
@@ -146,6 +176,12 @@ module _ (a : List ℕ) where
 
   pub free-done : (b : ℕ) → (freeOn a b .answer .code ≡ 0) ↔ ((why : Reason) → BlockRefused a b why → ⊥)
   free-done b = done-unless (free-gives a b) (free-case a b)
+
+  pub resize-done : (b n : ℕ) → (resizeOn a b n .answer .code ≡ 0) ↔ ((why : Reason) → ResizeRefused a b n why → ⊥)
+  resize-done b n = done-unless (resize-gives a b n) (resize-case a b n)
+
+  pub relocate-done : (b n : ℕ) → (relocateOn a b n .answer .code ≡ 0) ↔ ((why : Reason) → RelocateRefused a b n why → ⊥)
+  relocate-done b n = done-unless (relocate-gives a b n) (relocate-case a b n)
 
   pub realloc-done : (b n : ℕ) → (reallocOn a b n .answer .code ≡ 0) ↔ ((why : Reason) → ReallocRefused a b n why → ⊥)
   realloc-done b n = done-unless (realloc-gives a b n) (realloc-case a b n)

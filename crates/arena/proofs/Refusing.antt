@@ -6,10 +6,10 @@ use Prim.Native.Nat.{ℕ}
 use lib.ListN.{replicate}
 use Rattle.layout.specs.declared.Reason.{Reason}
 use Rattle.arena.specs.Answers.{Outcome}
-use Rattle.arena.specs.Calls.{startOn, allocOn, freeOn, reallocOn, sizeOn, reportOn}
+use Rattle.arena.specs.Calls.{startOn, allocOn, freeOn, resizeOn, relocateOn, reallocOn, sizeOn, reportOn}
 use Rattle.arena.proofs.Causes.{ReportRefused, BlockRefused}
 use Rattle.arena.proofs.Cases.{Case, refuses, does, Measures, measures, Reports, reports, start-case, alloc-case, free-case, size-case, report-case}
-use Rattle.arena.proofs.Regranting.{realloc-case}
+use Rattle.arena.proofs.Regranting.{resize-case, relocate-case, realloc-case}
 
 module _ {fields : ℕ} {a : List ℕ} {Refuses : Reason → Type 0} {Does : List ℕ → List ℕ → Type 0} where
   pub refused-unchanged : {outcome : Outcome} → Case fields a Refuses Does outcome → outcome .answer .code ≢ 0 → outcome .words ≡ a
@@ -30,6 +30,12 @@ alloc-refused-unchanged a n = refused-unchanged (alloc-case a n)
 
 pub free-refused-unchanged : (a : List ℕ) (b : ℕ) → freeOn a b .answer .code ≢ 0 → freeOn a b .words ≡ a
 free-refused-unchanged a b = refused-unchanged (free-case a b)
+
+pub resize-refused-unchanged : (a : List ℕ) (b n : ℕ) → resizeOn a b n .answer .code ≢ 0 → resizeOn a b n .words ≡ a
+resize-refused-unchanged a b n = refused-unchanged (resize-case a b n)
+
+pub relocate-refused-unchanged : (a : List ℕ) (b n : ℕ) → relocateOn a b n .answer .code ≢ 0 → relocateOn a b n .words ≡ a
+relocate-refused-unchanged a b n = refused-unchanged (relocate-case a b n)
 
 pub realloc-refused-unchanged : (a : List ℕ) (b n : ℕ) → reallocOn a b n .answer .code ≢ 0 → reallocOn a b n .words ≡ a
 realloc-refused-unchanged a b n = refused-unchanged (realloc-case a b n)
@@ -54,6 +60,12 @@ report-unchanged a = go (report-case a)
 
 pub alloc-refused-zeros : (a : List ℕ) (n : ℕ) → allocOn a n .answer .code ≢ 0 → allocOn a n .answer .values ≡ replicate 2 0
 alloc-refused-zeros a n = refused-zeros (alloc-case a n)
+
+pub resize-refused-zeros : (a : List ℕ) (b n : ℕ) → resizeOn a b n .answer .code ≢ 0 → resizeOn a b n .answer .values ≡ replicate 2 0
+resize-refused-zeros a b n = refused-zeros (resize-case a b n)
+
+pub relocate-refused-zeros : (a : List ℕ) (b n : ℕ) → relocateOn a b n .answer .code ≢ 0 → relocateOn a b n .answer .values ≡ replicate 2 0
+relocate-refused-zeros a b n = refused-zeros (relocate-case a b n)
 
 pub realloc-refused-zeros : (a : List ℕ) (b n : ℕ) → reallocOn a b n .answer .code ≢ 0 → reallocOn a b n .answer .values ≡ replicate 2 0
 realloc-refused-zeros a b n = refused-zeros (realloc-case a b n)

@@ -1,26 +1,29 @@
--- What realloc comes to, case by case.
+-- What resize, relocate and realloc come to, case by case, and that realloc, document 01's three ways, is the first and, if it is refused with WouldMove, the second.
 use mathlib.Core.Path.{_≡_, refl}
 use mathlib.Core.Logic.{_↔_}
 use mathlib.Core.Bool.{Bool, true, false, cond}
 use mathlib.Core.List.{List, [], _∷_, _++_}
 use lib.ListN.{length}
-use Prim.Native.Nat.{ℕ, _+_, _-_, _≤_, _<_}
+use Prim.Native.Nat.{ℕ, _+_, _-_, _≤_, _<_, min}
 use native.Mathlib.Omega.{arith}
-use lib.Dec.{leb}
+use lib.Dec.{leb, eqb}
 use borrow.Author.Tests.{leb-true, leb-false}
 use Rattle.layout.specs.Numbers.{firstChunk, headerWords, need}
 use Rattle.layout.specs.Chunks.{Chunk, free, live, total, written}
 use Rattle.layout.specs.Walk.{sound}
+use Rattle.layout.specs.Reasons.{number}
 use Rattle.layout.specs.declared.Gate.{Gate}
-use Rattle.layout.specs.declared.Reason.the-variants.{Length, Damaged, NotABlock, Zero, TooLarge, NoRoom}
-use Rattle.arena.specs.Answers.{settle, pass}
+use Rattle.layout.specs.declared.Reason.{Reason}
+use Rattle.layout.specs.declared.Reason.the-variants.{Length, Damaged, NotABlock, Zero, TooLarge, NoRoom, Frame, WouldMove}
+use Rattle.arena.specs.Answers.{Outcome, settle, pass}
 use Rattle.arena.specs.Spots.{Spot, at, held}
-use Rattle.arena.specs.Rules.{Way, shut, grants, orElse, taken, cut, trim, joined, released, copied, grantedAt, grantFrom, shrink, grow, move}
-use Rattle.arena.specs.Calls.{onBlock, granted, reallocOn}
+use Rattle.arena.specs.Rules.{Way, shut, grants, orElse, taken, cut, trim, joined, released, copied, grantFrom, shrink, grow, move, Regrant, regranted, resized, relocated}
+use Rattle.arena.specs.Calls.{onBlock, granted, regrantBy, resizeOn, relocateOn, resizeElseRelocate, reallocOn}
 use Rattle.arena.specs.Inside.Rooms.{roomWords}
 use Rattle.arena.proofs.Room.{room-words}
+use Rattle.arena.proofs.Moving.{cut-numbers}
 use Rattle.arena.proofs.Blocks.{BlockAt, GapAt, Held, no-block, a-block, held-told, Fitting, no-gap, a-gap, fitting-told}
-use Rattle.arena.proofs.Causes.{Request, Short, ReallocRefused}
+use Rattle.arena.proofs.Causes.{Request, Short, ShortBlock, RegrantRefused, ResizeRefused, RelocateRefused, ReallocRefused}
 use Rattle.arena.proofs.Cases.{Case, refuses, does}
 use Rattle.arena.proofs.Gates.{Checked, unlawful, damaged, whole, checked, Asked, for-none, for-more, for-some, asked}
 
@@ -59,34 +62,126 @@ stays-told a b need pre s post = go (leb need s) refl post
     go false e (live t ∷ post) = by-none (short-room s (live t ∷ post) need .1 (leb-false need s e))
     go false e (free t ∷ post) = more t post (leb need (s + t)) refl (leb-false need s e)
 
--- what realloc does: the block keeps its need of its own words, or of those and the free chunk's right after it, or it moves to a new block of the lowest free chunk that fits
-pub data Regrants (a : List ℕ) (b n : ℕ) : List ℕ → List ℕ → Type 0 where
+-- ---- what the three calls do
+
+-- resize: the block keeps its need of its own words, or of those and the free chunk's right after it
+pub data Resizes (a : List ℕ) (b n : ℕ) : List ℕ → List ℕ → Type 0 where
   shrinks : sound a ≡ true → Request a n → (pre : List Chunk) (s : ℕ) (post : List Chunk) → BlockAt a b pre s post → need n ≤ s
-      → Regrants a b n (b ∷ (taken (need n) s - headerWords) ∷ []) (written (joined (pre ++ (trim (need n) s ++ post))) a)
+      → Resizes a b n (b ∷ (taken (need n) s - headerWords) ∷ []) (written (joined (pre ++ (trim (need n) s ++ post))) a)
   grows : sound a ≡ true → Request a n → (pre : List Chunk) (s t : ℕ) (post : List Chunk) → BlockAt a b pre s (free t ∷ post) → s < need n → need n ≤ s + t
-      → Regrants a b n (b ∷ (taken (need n) (s + t) - headerWords) ∷ []) (written (joined (pre ++ (trim (need n) (s + t) ++ post))) a)
-  moves : sound a ≡ true → Request a n → (pre : List Chunk) (s : ℕ) (post : List Chunk) → BlockAt a b pre s post → Short s post (need n)
+      → Resizes a b n (b ∷ (taken (need n) (s + t) - headerWords) ∷ []) (written (joined (pre ++ (trim (need n) (s + t) ++ post))) a)
+
+-- relocate: the block moves to a new block of the lowest free chunk that fits
+pub data Relocates (a : List ℕ) (b n : ℕ) : List ℕ → List ℕ → Type 0 where
+  moves : sound a ≡ true → Request a n → (pre : List Chunk) (s : ℕ) (post : List Chunk) → BlockAt a b pre s post
       → (before : List Chunk) (g : ℕ) (after : List Chunk) → GapAt a (need n) before g after
       → (block : ℕ) → block ≡ firstChunk + total before + (g - taken (need n) g) + headerWords → (ks : List Chunk) → ks ≡ before ++ (cut (need n) g ++ after)
-      → Regrants a b n (block ∷ (taken (need n) g - headerWords) ∷ []) (written (released (held b ks)) (copied b block (s - headerWords) (written ks a)))
+      → (count : ℕ) → count ≡ min (s - headerWords) (taken (need n) g - headerWords)
+      → Relocates a b n (block ∷ (taken (need n) g - headerWords) ∷ []) (written (released (held b ks)) (copied b block count (written ks a)))
 
-pub realloc-case : (a : List ℕ) (b n : ℕ) → Case 2 a (ReallocRefused a b n) (Regrants a b n) (reallocOn a b n)
-unfolding reallocOn
-realloc-case a b n = go (checked a) (held-told a b) (asked (length a) n) (fitting-told a (need n))
-  where
-    at-block : {first second : Way} {gap : Spot} (pre : List Chunk) (s : ℕ) (post : List Chunk) → sound a ≡ true → Request a n → BlockAt a b pre s post → Stays a b (need n) pre s post first second → Fitting a (need n) gap
-        → Case 2 a (ReallocRefused a b n) (Regrants a b n) (settle 2 a (granted (orElse first (orElse second (move b (s - headerWords) (grantFrom (need n) gap) a)))))
-    at-block pre s post e r is (by-own l) g = does (shrinks e r pre s post is l)
-    at-block pre s post e r is (by-next l m) g = does (grows e r pre s _ _ is l m)
-    at-block pre s post e r is (by-none l) (no-gap h) = refuses NoRoom (e, (r, (pre, s, post, is, l), h))
-    at-block pre s post e r is (by-none l) (a-gap before g after gap) = does (moves e r pre s post is l before g after gap _ refl _ refl)
+-- realloc: one or the other
+pub data Regrants (a : List ℕ) (b n : ℕ) (values after : List ℕ) : Type 0 where
+  in-place : Resizes a b n values after → Regrants a b n values after
+  elsewhere : ShortBlock a b (need n) → Relocates a b n values after → Regrants a b n values after
 
-    go : {arena request : Gate} {spot gap : Spot} → Checked a arena → Held a b spot → Asked (length a) n request → Fitting a (need n) gap
-        → Case 2 a (ReallocRefused a b n) (Regrants a b n)
-        (settle 2 a (pass arena (onBlock spot (pass request (granted (orElse (shrink b (need n) spot a) (orElse (grow b (need n) spot a) (move b (grantedAt spot) (grantFrom (need n) gap) a))))))))
-    go (unlawful e) h q g = refuses Length e
-    go (damaged e f) h q g = refuses Damaged (e, f)
-    go (whole e) (no-block h) q g = refuses NotABlock (e, h)
-    go (whole e) (a-block pre s post is) (for-none z) g = refuses Zero (e, ((pre, s, post, is), z))
-    go (whole e) (a-block pre s post is) (for-more m) g = refuses TooLarge (e, ((pre, s, post, is), m))
-    go (whole e) (a-block pre s post is) (for-some r) g = at-block pre s post e r is (stays-told a b (need n) pre s post) g
+-- ---- resize and relocate
+
+module _ (a : List ℕ) (b n : ℕ) where
+  -- what the gates and the block leave of a way
+  abbrev at-spot : Gate → Spot → Gate → Reason → Way → Outcome
+  at-spot arena spot request why way = settle 2 a (pass arena (onBlock spot (pass request (granted why way))))
+
+  -- a call that grants a block anew: a gate is shut, there is no block, or all depends on the way at the block
+  regrant-case : (why : Reason) (rule : Regrant) (room stuck : Type 0) (Does : List ℕ → List ℕ → Type 0)
+      → (sound a ≡ true → Request a n → (pre : List Chunk) (s : ℕ) (post : List Chunk) → BlockAt a b pre s post → (gap : Spot) → Fitting a (need n) gap
+      → Case 2 a (RegrantRefused a b n room stuck) Does (settle 2 a (granted why (rule b (need n) (at pre (live s) post) (grantFrom (need n) gap) a))))
+      → Case 2 a (RegrantRefused a b n room stuck) Does (regrantBy why rule a b n)
+  unfolding regrantBy
+  regrant-case why rule room stuck Does at-block = go (checked a) (held-told a b) (asked (length a) n) (fitting-told a (need n))
+    where
+      go : {arena request : Gate} {spot gap : Spot} → Checked a arena → Held a b spot → Asked (length a) n request → Fitting a (need n) gap
+          → Case 2 a (RegrantRefused a b n room stuck) Does
+          (at-spot arena spot request why (rule b (need n) spot (grantFrom (need n) gap) a))
+      go (unlawful e) h q g = refuses Length e
+      go (damaged e f) h q g = refuses Damaged (e, f)
+      go (whole e) (no-block h) q g = refuses NotABlock (e, h)
+      go (whole e) (a-block pre s post is) (for-none z) g = refuses Zero (e, ((pre, s, post, is), z))
+      go (whole e) (a-block pre s post is) (for-more m) g = refuses TooLarge (e, ((pre, s, post, is), m))
+      go (whole e) (a-block pre s post is) (for-some r) g = at-block e r pre s post is _ g
+
+  pub resize-case : Case 2 a (ResizeRefused a b n) (Resizes a b n) (resizeOn a b n)
+  resize-case =
+      regrant-case WouldMove resized _ _ (Resizes a b n) (λ e r pre s post is gap g. go pre s post e r is (stays-told a b (need n) pre s post))
+    where
+      go : {first second : Way} (pre : List Chunk) (s : ℕ) (post : List Chunk) → sound a ≡ true → Request a n → BlockAt a b pre s post → Stays a b (need n) pre s post first second
+          → Case 2 a (ResizeRefused a b n) (Resizes a b n) (settle 2 a (granted WouldMove (orElse first second)))
+      go pre s post e r is (by-own l) = does (shrinks e r pre s post is l)
+      go pre s post e r is (by-next l m) = does (grows e r pre s _ _ is l m)
+      go pre s post e r is (by-none l) = refuses WouldMove (e, (r, (pre, s, post, is, l)))
+
+  pub relocate-case : Case 2 a (RelocateRefused a b n) (Relocates a b n) (relocateOn a b n)
+  relocate-case = regrant-case NoRoom relocated _ _ (Relocates a b n) (λ e r pre s post is gap g. go pre s post e r is g)
+    where
+      go : {gap : Spot} (pre : List Chunk) (s : ℕ) (post : List Chunk) → sound a ≡ true → Request a n → BlockAt a b pre s post → Fitting a (need n) gap
+          → Case 2 a (RelocateRefused a b n) (Relocates a b n) (settle 2 a (granted NoRoom (relocated b (need n) (at pre (live s) post) (grantFrom (need n) gap) a)))
+      go pre s post e r is (no-gap h) = refuses NoRoom (e, (r, (pre, s, post, is), h))
+      go pre s post e r is (a-gap before g after gap) = does (moves e r pre s post is before g after gap _ refl _ refl _ refl)
+
+  -- ---- realloc is the two of them, one after the other
+
+  -- where the need is longer than the old block, the shorter of the two blocks is the old one
+  shorter-old : (s g : ℕ) → s < need n → need n ≤ g → min (s - headerWords) (taken (need n) g - headerWords) ≡ s - headerWords
+  shorter-old s g l m = omega (arith, cut-numbers (need n) g m .enough)
+
+  pub three-ways : resizeElseRelocate a b n ≡ reallocOn a b n
+  unfolding regrantBy
+  three-ways = go (checked a) (held-told a b) (asked (length a) n) (fitting-told a (need n))
+    where
+      go : {arena request : Gate} {spot gap : Spot} → Checked a arena → Held a b spot → Asked (length a) n request → Fitting a (need n) gap
+          → cond (eqb (at-spot arena spot request WouldMove (resized b (need n) spot (grantFrom (need n) gap) a) .answer .code) (number WouldMove))
+          (at-spot arena spot request NoRoom (relocated b (need n) spot (grantFrom (need n) gap) a))
+          (at-spot arena spot request WouldMove (resized b (need n) spot (grantFrom (need n) gap) a))
+          ≡ at-spot arena spot request NoRoom (regranted b (need n) spot (grantFrom (need n) gap) a)
+      go (unlawful e) h q g = refl
+      go (damaged e f) h q g = refl
+      go (whole e) (no-block h) q g = refl
+      go (whole e) (a-block pre s post is) (for-none z) g = refl
+      go (whole e) (a-block pre s post is) (for-more m) g = refl
+      go (whole e) (a-block pre s post is) (for-some r) g = ways (stays-told a b (need n) pre s post) g
+        where
+          ways : {post : List Chunk} {first second : Way} {gap : Spot} → Stays a b (need n) pre s post first second → Fitting a (need n) gap
+              → cond (eqb (settle 2 a (granted WouldMove (orElse first second)) .answer .code) (number WouldMove))
+              (settle 2 a (granted NoRoom (relocated b (need n) (at pre (live s) post) (grantFrom (need n) gap) a)))
+              (settle 2 a (granted WouldMove (orElse first second)))
+              ≡ settle 2 a (granted NoRoom (orElse first (orElse second (move b (s - headerWords) (grantFrom (need n) gap) a))))
+          ways (by-own l) f = refl
+          ways (by-next l m) f = refl
+          ways (by-none l) (no-gap h) = refl
+          ways (by-none l) (a-gap before g after gap) = rw (shorter-old s g (l .own) (gap .enough))
+
+  pub realloc-case : Case 2 a (ReallocRefused a b n) (Regrants a b n) (reallocOn a b n)
+  realloc-case = rw (← three-ways) (go resize-case relocate-case)
+    where
+      -- the resize would move, and so the move is made
+      second : {outcome : Outcome} → ShortBlock a b (need n) → Case 2 a (RelocateRefused a b n) (Relocates a b n) outcome → Case 2 a (ReallocRefused a b n) (Regrants a b n) outcome
+      second short (refuses Length e) = refuses Length e
+      second short (refuses Damaged e) = refuses Damaged e
+      second short (refuses NotABlock e) = refuses NotABlock e
+      second short (refuses Zero e) = refuses Zero e
+      second short (refuses TooLarge e) = refuses TooLarge e
+      second short (refuses NoRoom (e, (r, some, h))) = refuses NoRoom (e, (r, short, h))
+      second short (refuses Frame e) = absurd e
+      second short (refuses WouldMove e) = absurd (e .1)
+      second short (does d) = does (elsewhere short d)
+
+      go : {first other : Outcome} → Case 2 a (ResizeRefused a b n) (Resizes a b n) first → Case 2 a (RelocateRefused a b n) (Relocates a b n) other
+          → Case 2 a (ReallocRefused a b n) (Regrants a b n) (cond (eqb (first .answer .code) (number WouldMove)) other first)
+      go (refuses Length e) c = refuses Length e
+      go (refuses Damaged e) c = refuses Damaged e
+      go (refuses NotABlock e) c = refuses NotABlock e
+      go (refuses Zero e) c = refuses Zero e
+      go (refuses TooLarge e) c = refuses TooLarge e
+      go (refuses NoRoom e) c = absurd (e .1)
+      go (refuses Frame e) c = absurd e
+      go (refuses WouldMove (e, (r, short))) c = second short c
+      go (does d) c = does (in-place d)

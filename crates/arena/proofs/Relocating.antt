@@ -2,7 +2,7 @@
 use mathlib.Core.Path.{_≡_, refl, sym, ap, _∙_}
 use mathlib.Core.Bool.{true}
 use mathlib.Core.List.{List, _∷_, _++_}
-use Prim.Native.Nat.{ℕ, _+_, _-_, _<_}
+use Prim.Native.Nat.{ℕ, _+_, _-_, _≤_}
 use Rattle.layout.specs.Numbers.{firstChunk, listWord, headerWords}
 use Rattle.layout.specs.Chunks.{Chunk, free, live, total, written}
 use Rattle.layout.specs.Walk.{sound, chunksOf}
@@ -22,16 +22,16 @@ pub record Relocated (there : List ℕ) (b s : ℕ) (ks : List Chunk) : Type 0 w
   pub old : BlockAt there b pre s post
   pub leaves : written (released (held b ks)) there ≡ written (joined (pre ++ free s ∷ post)) there
 
-pub relocated : (a : List ℕ) (need : ℕ) (pre : List Chunk) (s : ℕ) (post before : List Chunk) (g : ℕ) (after : List Chunk) (b block : ℕ) (ks : List Chunk) → sound a ≡ true
-    → Needed need → BlockAt a b pre s post → GapAt a need before g after → s < need
+pub relocates : (a : List ℕ) (need : ℕ) (pre : List Chunk) (s : ℕ) (post before : List Chunk) (g : ℕ) (after : List Chunk) (b block count : ℕ) (ks : List Chunk) → sound a ≡ true
+    → Needed need → BlockAt a b pre s post → GapAt a need before g after → count ≤ s - headerWords → count ≤ taken need g - headerWords
     → block ≡ firstChunk + total before + (g - taken need g) + headerWords → ks ≡ before ++ (cut need g ++ after)
-    → Relocated (copied b block (s - headerWords) (written ks a)) b s ks
-relocated a need pre s post before g after b block ks e n is gap longer at-is same =
+    → Relocated (copied b block count (written ks a)) b s ks
+relocates a need pre s post before g after b block count ks e n is gap own room at-is same =
     let old : Stands a pre (live s) post (linkAt listWord firstChunk pre) (firstChunk + total pre) = record { is-sound = e; same = is .same; link-is = refl; at-is = refl } in
     let new : Stands a before (free g) after (linkAt listWord firstChunk before) (firstChunk + total before) = record { is-sound = e; same = gap .same; link-is = refl; at-is = refl } in
     let stays = beyond a pre s post _ _ old before g after _ _ new need n (gap .enough) in
-    let stands = moved-stands a pre s post _ _ old before g after _ _ new need n (gap .enough) longer in
-    let leaves = moved a pre s post _ _ old before g after _ _ new need n (gap .enough) longer (gap .lowest-is) .leaves in
+    let stands = moved-stands a pre s post _ _ old before g after _ _ new need n (gap .enough) count own room in
+    let leaves = moved a pre s post _ _ old before g after _ _ new need n (gap .enough) count own room .leaves in
     rw (same, at-is, ← is .number-is)
     (record {
       pre = stays .pre;
@@ -39,5 +39,5 @@ relocated a need pre s post before g after b block ks e n is gap longer at-is sa
       is-sound = stands .is-sound;
       chunks = stands .same ∙ sym (stays .same);
       old = record { same = stands .same; number-is = ap (λ (c : ℕ). c + headerWords) (sym (stands .at-is)) };
-      leaves = sym (rw (gap .lowest-is) at leaves);
+      leaves = sym leaves;
     })

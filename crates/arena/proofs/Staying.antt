@@ -11,9 +11,9 @@ use Rattle.layout.specs.Chunks.{Chunk, free, live, header, write, written}
 use Rattle.layout.proofs.Holds.{Spaced, spaced-under, spaced-weaken}
 use Rattle.layout.proofs.Written.{written-fixed}
 use Rattle.arena.specs.Spots.{at}
-use Rattle.arena.specs.Rules.{shut, join, joined, stay, grow}
+use Rattle.arena.specs.Rules.{shut, join, joined, stay, grow, resized}
 use Rattle.arena.specs.Inside.Places.{Stands, Needed}
-use Rattle.arena.specs.Inside.Ways.{Follows, inPlace}
+use Rattle.arena.specs.Inside.Ways.{Follows, wayBy}
 use Rattle.arena.specs.Inside.Rooms.{HasRoom, roomWords, roomAfter, splitOff}
 use Rattle.arena.specs.declared.grant.Way.the-variants.{Grants, Shut}
 use Rattle.arena.specs.declared.release.Room.{Room}
@@ -80,35 +80,35 @@ module _ (a : List ℕ) (pre : List Chunk) (s : ℕ) (post : List Chunk) (link c
   -- ---- the outcomes
 
   -- way 1 with too few words over
-  pub keeps : (need : ℕ) → need ≤ s → s - need < leastSplit → Follows (inPlace (chunk + headerWords) need a pre s post) a (Grants (chunk + headerWords) (s - headerWords)) a
+  pub keeps : (need : ℕ) → need ≤ s → s - need < leastSplit → Follows (wayBy resized (chunk + headerWords) need a pre s post) a (Grants (chunk + headerWords) (s - headerWords)) a
   keeps need l h =
       let r = reads a pre (live s) post link chunk st in
       rw (le-leb need s l, lt-leb leastSplit (s - need) h)
       (record { answers = refl; leaves = sym (ap (λ (ks : List Chunk). written ks a) (joined-spaced false (pre ++ live s ∷ post) (r .arena .law .spaced)) ∙ written-fixed (pre ++ live s ∷ post) a (r .arena)) })
 
   -- way 1 with words over
-  pub shrinks : (need : ℕ) → Needed need → need ≤ s → leastSplit ≤ s - need → Follows (inPlace (chunk + headerWords) need a pre s post) a (Grants (chunk + headerWords) (need - headerWords)) (splitOff link chunk need room a)
+  pub shrinks : (need : ℕ) → Needed need → need ≤ s → leastSplit ≤ s - need → Follows (wayBy resized (chunk + headerWords) need a pre s post) a (Grants (chunk + headerWords) (need - headerWords)) (splitOff link chunk need room a)
   shrinks need n l h =
       let b = bounds a pre s post link chunk st room has in
       rw (le-leb need s l, le-leb leastSplit (s - need) h)
       (record { answers = refl; leaves = split-words need n (omega arith) ∙ ap (λ (ks : List Chunk). written ks a) (sym (shrunk-apart need l)) })
 
   -- neither way
-  pub too-short : (need : ℕ) → s < need → room .words < need → Follows (inPlace (chunk + headerWords) need a pre s post) a Shut a
+  pub too-short : (need : ℕ) → s < need → room .words < need → Follows (wayBy resized (chunk + headerWords) need a pre s post) a Shut a
   too-short need l h =
       rw (lt-leb need s l, grow-shut (chunk + headerWords) need pre s post a l (omega (arith, has .words-are)))
       (record { answers = refl; leaves = refl })
 
   -- way 2 with too few words over
   pub grows-whole : (need : ℕ) → s < need → need ≤ room .words → room .words - need < leastSplit
-      → Follows (inPlace (chunk + headerWords) need a pre s post) a (Grants (chunk + headerWords) (room .words - headerWords)) (header chunk (room .words) liveMark (set a link (room .next)))
+      → Follows (wayBy resized (chunk + headerWords) need a pre s post) a (Grants (chunk + headerWords) (room .words - headerWords)) (header chunk (room .words) liveMark (set a link (room .next)))
   grows-whole need l m h =
       rw (lt-leb need s l, grow-stays (chunk + headerWords) need pre s post a l (omega (arith, has .words-are)), ← has .words-are, le-leb need (room .words) m, lt-leb leastSplit (room .words - need) h)
       (record { answers = refl; leaves = all-words ∙ ap (λ (ks : List Chunk). written ks a) (sym all-apart) })
 
   -- way 2 with words over
   pub grows-part : (need : ℕ) → Needed need → s < need → need ≤ room .words → leastSplit ≤ room .words - need
-      → Follows (inPlace (chunk + headerWords) need a pre s post) a (Grants (chunk + headerWords) (need - headerWords)) (splitOff link chunk need room a)
+      → Follows (wayBy resized (chunk + headerWords) need a pre s post) a (Grants (chunk + headerWords) (need - headerWords)) (splitOff link chunk need room a)
   grows-part need n l m h =
       rw (lt-leb need s l, grow-stays (chunk + headerWords) need pre s post a l (omega (arith, has .words-are)), ← has .words-are, le-leb need (room .words) m, le-leb leastSplit (room .words - need) h)
       (record { answers = refl; leaves = split-words need n (omega arith) ∙ ap (λ (ks : List Chunk). written ks a) (sym (split-apart need)) })

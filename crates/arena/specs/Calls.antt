@@ -1,4 +1,4 @@
--- The seven calls on an arena's words `a`: what each answers, and what each leaves. Reasons are looked for in the order of their numbers.
+-- The nine calls on an arena's words `a`: what each answers, and what each leaves. Reasons are looked for in the order of their numbers.
 use Prim.Native.Nat.{ℕ, _+_, _-_, _*_}
 use mathlib.Core.Path.{_≡_}
 use mathlib.Core.List.{List, [], _∷_}
@@ -8,21 +8,22 @@ use lib.Dec.{eqb}
 use Rattle.layout.specs.Numbers.{controlWords, headerWords, lawful, need}
 use Rattle.layout.specs.Chunks.{free, written}
 use Rattle.layout.specs.Walk.{chunksOf}
-use Rattle.layout.specs.Reasons.{arenaGate, requestGate}
-use Rattle.layout.specs.declared.Reason.the-variants.{Length, NotABlock, NoRoom}
+use Rattle.layout.specs.Reasons.{number, arenaGate, requestGate}
+use Rattle.layout.specs.declared.Reason.{Reason}
+use Rattle.layout.specs.declared.Reason.the-variants.{Length, NotABlock, NoRoom, WouldMove}
 use Rattle.arena.specs.Answers.{Outcome, Result, refused, done, settle, pass}
 use Rattle.arena.specs.Spots.{Spot, nowhere, at, Policy, firstFit, held}
-use Rattle.arena.specs.Rules.{Way, shut, grants, grantFrom, grantedAt, allotted, regranted, released, freeWords, widest, liveBlocks, freeChunks}
+use Rattle.arena.specs.Rules.{Way, shut, grants, grantFrom, grantedAt, allotted, Regrant, regranted, resized, relocated, released, freeWords, widest, liveBlocks, freeChunks}
 
 -- a call on a block is refused where there is none
 abbrev pub onBlock : Spot → Result → Result
 onBlock nowhere result = refused NotABlock
 onBlock (at pre k post) result = result
 
--- a call that grants is refused where its way is shut
-abbrev pub granted : Way → Result
-granted shut = refused NoRoom
-granted (grants block words after) = done (block ∷ words ∷ []) after
+-- a call that grants is refused with `why` where its way is shut
+abbrev pub granted : Reason → Way → Result
+granted why shut = refused why
+granted why (grants block words after) = done (block ∷ words ∷ []) after
 
 -- one free chunk behind the control words; soundness is not asked
 unfoldable pub startOn : List ℕ → Outcome
@@ -34,7 +35,7 @@ allocBy policy a n =
     settle 2 a
     (pass (arenaGate a)
     (pass (requestGate (length a) n)
-    (granted (allotted (grantFrom (need n) (policy (need n) (chunksOf a))) a))))
+    (granted NoRoom (allotted (grantFrom (need n) (policy (need n) (chunksOf a))) a))))
 
 abbrev pub allocOn : List ℕ → ℕ → Outcome
 allocOn a n = allocBy firstFit a n
@@ -45,15 +46,31 @@ freeOn a b =
     let spot = held b (chunksOf a) in
     settle 0 a (pass (arenaGate a) (onBlock spot (done [] (written (released spot) a))))
 
--- the first of the three ways that is open
-unfoldable pub reallocOn : List ℕ → ℕ → ℕ → Outcome
-reallocOn a b n =
+-- a call that grants block `b` anew by a rule, and is refused with `why` where the rule's way is shut
+unfoldable pub regrantBy : Reason → Regrant → List ℕ → ℕ → ℕ → Outcome
+regrantBy why rule a b n =
     let spot = held b (chunksOf a) in
     settle 2 a
     (pass (arenaGate a)
     (onBlock spot
     (pass (requestGate (length a) n)
-    (granted (regranted b (need n) spot (grantFrom (need n) (firstFit (need n) (chunksOf a))) a)))))
+    (granted why (rule b (need n) spot (grantFrom (need n) (firstFit (need n) (chunksOf a))) a)))))
+
+-- the first of the three ways that is open
+abbrev pub reallocOn : List ℕ → ℕ → ℕ → Outcome
+reallocOn a b n = regrantBy NoRoom regranted a b n
+
+-- the first two ways: the block keeps its number, or the call is refused
+abbrev pub resizeOn : List ℕ → ℕ → ℕ → Outcome
+resizeOn a b n = regrantBy WouldMove resized a b n
+
+-- the third way by itself
+abbrev pub relocateOn : List ℕ → ℕ → ℕ → Outcome
+relocateOn a b n = regrantBy NoRoom relocated a b n
+
+-- the resize and, if it is refused with WouldMove, the move. That this is realloc is a theorem
+abbrev pub resizeElseRelocate : List ℕ → ℕ → ℕ → Outcome
+resizeElseRelocate a b n = cond (eqb (resizeOn a b n .answer .code) (number WouldMove)) (relocateOn a b n) (resizeOn a b n)
 
 -- the granted words of a block
 unfoldable pub sizeOn : List ℕ → ℕ → Outcome

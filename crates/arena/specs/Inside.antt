@@ -1,5 +1,6 @@
 -- What the functions inside the crate say to each other. No public promise cites these files.
 pub mod Places
+pub mod Targets
 pub mod Ways
 pub mod Rooms
 pub mod Moves

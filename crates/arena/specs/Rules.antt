@@ -1,5 +1,5 @@
 -- The rules of the calls, on chunks.
-use Prim.Native.Nat.{ℕ, zero, suc, _+_, _-_, max}
+use Prim.Native.Nat.{ℕ, zero, suc, _+_, _-_, max, min}
 use mathlib.Core.List.{List, [], _∷_, _++_}
 use mathlib.Core.Bool.{Bool, cond}
 use lib.ListN.{getD, set}
@@ -100,15 +100,34 @@ unfoldable pub copied : ℕ → ℕ → ℕ → List ℕ → List ℕ
 copied from to zero a = a
 copied from to (suc k) a = set (copied from to k a) (to + k) (getD a (from + k) 0)
 
--- way 3: a new block is granted with the old one still live, all the old granted words are copied, and the old block is freed
+-- way 3: a new block is granted with the old one still live, `count` of the old words are copied, and the old block is freed
 abbrev pub move : ℕ → ℕ → Grant → List ℕ → Way
 move b count none a = shut
 move b count (grant block granted ks) a =
     grants block granted (written (released (held b ks)) (copied b block count (written ks a)))
 
--- the three ways in their order, where `new` is what a new block would be
-abbrev pub regranted : ℕ → ℕ → Spot → Grant → List ℕ → Way
+-- the granted words of a new block
+abbrev pub grantedIn : Grant → ℕ
+grantedIn none = 0
+grantedIn (grant block granted ks) = granted
+
+-- ---- realloc, resize and relocate of block `b`, where `new` is what a new block would be
+
+-- a rule takes the block's number, the need, the block's spot, the new block, and the words
+abbrev pub Regrant : Type 0
+Regrant = ℕ → ℕ → Spot → Grant → List ℕ → Way
+
+-- the three ways in their order; a move copies all the old granted words
+abbrev pub regranted : Regrant
 regranted b need spot new a = orElse (shrink b need spot a) (orElse (grow b need spot a) (move b (grantedAt spot) new a))
+
+-- ways 1 and 2: the block stays where it is
+abbrev pub resized : Regrant
+resized b need spot new a = orElse (shrink b need spot a) (grow b need spot a)
+
+-- way 3 by itself: it copies as many words as the shorter of the two blocks has granted
+abbrev pub relocated : Regrant
+relocated b need spot new a = move b (min (grantedAt spot) (grantedIn new)) new a
 
 -- ---- report
 

@@ -4,6 +4,7 @@ mod places;
 mod release;
 mod stores;
 mod tally;
+mod targets;
 mod ways;
 
 use grant::Way;
@@ -11,10 +12,11 @@ use layout::Gate;
 use layout::Reason;
 use layout::wide;
 use places::Place;
+use targets::Target;
 ghost use mathlib.Core.Path.{_≡_};
 ghost use denote.Ref.{ptr};
 ghost use Rattle.arena.specs.Answers.{Gives, finishNumbers, grantedNumbers, sizedNumbers, reportedNumbers};
-ghost use Rattle.arena.specs.Calls.{startOn, allocOn, freeOn, reallocOn, sizeOn, Views, reportOn};
+ghost use Rattle.arena.specs.Calls.{startOn, allocOn, freeOn, resizeOn, relocateOn, reallocOn, sizeOn, Views, reportOn};
 ghost use Rattle.arena.specs.Inside.Ways.{grantedOf};
 
 // What start and free answer.
@@ -23,7 +25,7 @@ pub enum Finish {
     Refused(layout::Reason),
 }
 
-// What alloc and realloc answer.
+// What alloc, resize, relocate and realloc answer.
 pub enum Granted {
     Block { block: u32, granted: u32 },
     Refused(layout::Reason),
@@ -72,7 +74,7 @@ pub fn alloc(a: &mut [u32], n: u32) -> Granted
         return Granted::Refused(why);
     }
     let way = grant::allot(a, layout::need(wide(n)));
-    answer(way)
+    answer(way, Reason::NoRoom)
 }
 
 // Frees block `b`.
@@ -91,24 +93,45 @@ pub fn free(a: &mut [u32], b: u32) -> Finish
     Finish::Done
 }
 
-// Makes block `b` one of at least `n` words: where it stands, or moved.
+// Makes block `b` one of at least `n` words where it stands; it keeps its number, or the call is refused.
+pub fn resize(a: &mut [u32], b: u32, n: u32) -> Granted
+    ensures { λ r. ⌜ Gives (resizeOn (now (a .entry)) b n) (grantedNumbers r) (now (a .exit)) ⌝ }
+{
+    let target = targets::target_of(a, b, n);
+    match target {
+        Target::Block { link, chunk, need } => {
+            let way = ways::resize_at(a, link, chunk, need);
+            answer(way, Reason::WouldMove)
+        }
+        Target::Refused(why) => Granted::Refused(why),
+    }
+}
+
+// Moves block `b` to a new block of at least `n` words, and its words with it, as many as the shorter of the two has.
+pub fn relocate(a: &mut [u32], b: u32, n: u32) -> Granted
+    ensures { λ r. ⌜ Gives (relocateOn (now (a .entry)) b n) (grantedNumbers r) (now (a .exit)) ⌝ }
+{
+    let target = targets::target_of(a, b, n);
+    match target {
+        Target::Block { link, chunk, need } => {
+            let way = ways::relocate_at(a, link, chunk, need);
+            answer(way, Reason::NoRoom)
+        }
+        Target::Refused(why) => Granted::Refused(why),
+    }
+}
+
+// Makes block `b` one of at least `n` words: where it stands or, if it would have to move, elsewhere.
 pub fn realloc(a: &mut [u32], b: u32, n: u32) -> Granted
     ensures { λ r. ⌜ Gives (reallocOn (now (a .entry)) b n) (grantedNumbers r) (now (a .exit)) ⌝ }
 {
-    let arena = layout::check_arena(a);
-    if let Gate::Shut(why) = arena {
-        return Granted::Refused(why);
+    let resized = resize(a, b, n);
+    if let Granted::Refused(why) = resized {
+        if let Reason::WouldMove = why {
+            return relocate(a, b, n);
+        }
     }
-    let place = places::find(a, wide(b));
-    let Place::At(link, chunk) = place else {
-        return Granted::Refused(Reason::NotABlock);
-    };
-    let asked = layout::check_request(a.len(), wide(n));
-    if let Gate::Shut(why) = asked {
-        return Granted::Refused(why);
-    }
-    let way = ways::realloc_at(a, link, chunk, layout::need(wide(n)));
-    answer(way)
+    resized
 }
 
 // The granted words of block `b`.
@@ -163,12 +186,12 @@ pub fn report(a: &[u32]) -> Reported
     tally::reported(tally::count(a))
 }
 
-// A way as the answer of a call that grants.
-fn answer(way: Way) -> Granted
-    ensures { λ r. ⌜ r ≡ grantedOf way ⌝ }
+// A way as the answer of a call that grants; `why` is what the call says where it is shut.
+fn answer(way: Way, why: Reason) -> Granted
+    ensures { λ r. ⌜ r ≡ grantedOf why way ⌝ }
 {
     match way {
         Way::Grants(block, granted) => Granted::Block { block, granted },
-        Way::Shut => Granted::Refused(Reason::NoRoom),
+        Way::Shut => Granted::Refused(why),
     }
 }

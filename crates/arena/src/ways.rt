@@ -1,4 +1,4 @@
-// The three ways of realloc.
+// A block is granted anew: where it stands, or elsewhere.
 use super::grant;
 use super::grant::Piece;
 use super::grant::Way;
@@ -9,11 +9,12 @@ use super::release::Room;
 use super::stores;
 use layout::wide;
 ghost use mathlib.Core.Path.{_≡_};
-ghost use Prim.Native.Nat.{_+_, _≤_, _<_};
-ghost use lib.ListN.{length, getD};
-ghost use Rattle.layout.specs.Numbers.{headerWords, greatestLength};
+ghost use Prim.Native.Nat.{_≤_, min};
+ghost use lib.ListN.{length};
+ghost use Rattle.layout.specs.Numbers.{greatestLength};
+ghost use Rattle.arena.specs.Rules.{resized, relocated};
 ghost use Rattle.arena.specs.Inside.Places.{LiveAt, Needed};
-ghost use Rattle.arena.specs.Inside.Ways.{FollowsAt, inPlace, byMove, inOrder};
+ghost use Rattle.arena.specs.Inside.Ways.{FollowsAt};
 ghost use Rattle.arena.specs.Inside.Rooms.{RoomFor, splitOff};
 ghost use Rattle.arena.specs.Inside.Moves.{linkAfter};
 
@@ -31,9 +32,9 @@ fn split_off(a: &mut [u32], link: usize, chunk: usize, need: usize, room: Room)
 }
 
 // Ways 1 and 2: the block stays where it is.
-fn resize(a: &mut [u32], link: usize, chunk: usize, need: usize) -> Way
+pub(crate) fn resize_at(a: &mut [u32], link: usize, chunk: usize, need: usize) -> Way
     requires { ⌜ LiveAt (now a) link chunk × Needed need ⌝ }
-    ensures { λ r. ⌜ FollowsAt (now (a .entry)) link chunk (inPlace (chunk + headerWords) need (now (a .entry))) r (now (a .exit)) ⌝ }
+    ensures { λ r. ⌜ FollowsAt resized (now (a .entry)) link chunk need r (now (a .exit)) ⌝ }
 {
     let size = wide(a[chunk]);
     let room = release::room_at(a, link, chunk);
@@ -72,18 +73,29 @@ fn link_after(link: usize, gap_link: usize, gap: usize, new: usize) -> usize
     gap_link
 }
 
-// Way 3: the block moves, and the old one is freed once its words are copied.
-fn relocate(a: &mut [u32], link: usize, chunk: usize, need: usize) -> Way
-    requires { ⌜ LiveAt (now a) link chunk × Needed need × (getD (now a) chunk 0 < need) ⌝ }
-    ensures { λ r. ⌜ FollowsAt (now (a .entry)) link chunk (byMove (chunk + headerWords) need (now (a .entry))) r (now (a .exit)) ⌝ }
+// The smaller of two numbers.
+fn smaller(x: usize, y: usize) -> usize
+    ensures { λ r. ⌜ r ≡ min x y ⌝ }
+{
+    if x < y {
+        return x;
+    }
+    y
+}
+
+// Way 3: the block moves, and the old one is freed once as many words are copied as the shorter of the two has.
+pub(crate) fn relocate_at(a: &mut [u32], link: usize, chunk: usize, need: usize) -> Way
+    requires { ⌜ LiveAt (now a) link chunk × Needed need ⌝ }
+    ensures { λ r. ⌜ FollowsAt relocated (now (a .entry)) link chunk need r (now (a .exit)) ⌝ }
 {
     let place = places::first_fit(a, need);
     let Place::At(gap_link, gap) = place else {
         return Way::Shut;
     };
-    let count = layout::block_words(wide(a[chunk]));
+    let old_words = layout::block_words(wide(a[chunk]));
     let piece = grant::take(a, gap_link, gap, need);
     let new = piece.chunk;
+    let count = smaller(old_words, layout::block_words(piece.words));
     stores::copy(
         a,
         chunk + layout::HEADER_WORDS,
@@ -92,16 +104,4 @@ fn relocate(a: &mut [u32], link: usize, chunk: usize, need: usize) -> Way
     );
     release::release(a, link_after(link, gap_link, gap, new), chunk);
     grant::grants(piece)
-}
-
-// The three ways in their order.
-pub(crate) fn realloc_at(a: &mut [u32], link: usize, chunk: usize, need: usize) -> Way
-    requires { ⌜ LiveAt (now a) link chunk × Needed need ⌝ }
-    ensures { λ r. ⌜ FollowsAt (now (a .entry)) link chunk (inOrder (chunk + headerWords) need (now (a .entry))) r (now (a .exit)) ⌝ }
-{
-    let way = resize(a, link, chunk, need);
-    if let Way::Shut = way {
-        return relocate(a, link, chunk, need);
-    }
-    way
 }

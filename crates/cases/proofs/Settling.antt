@@ -16,11 +16,11 @@ use Rattle.cases.specs.Cases.{answered, unknown, outcomeOf, isView, Sett
 pub settled : {o : Outcome} {x : Answer} {words : List ℕ} {r : Answered} → Gives o x words → r ≡ answered x → Settles o r words
 settled g e = record { answers = e ∙ ap answered (g .answers); leaves = g .leaves }
 
--- a number that is none of the six
-pub unknown-call : (call b n : ℕ) (a : List ℕ) → call ≢ 1 → call ≢ 2 → call ≢ 3 → call ≢ 4 → call ≢ 5 → call ≢ 6 → outcomeOf call b n a ≡ unknown a
+-- a number that is none of the eight
+pub unknown-call : (call b n : ℕ) (a : List ℕ) → call ≢ 1 → call ≢ 2 → call ≢ 3 → call ≢ 4 → call ≢ 5 → call ≢ 6 → call ≢ 9 → call ≢ 10 → outcomeOf call b n a ≡ unknown a
 unfolding outcomeOf
-unknown-call call b n a n1 n2 n3 n4 n5 n6 =
-    simp (ne-eqb call 1 n1, ne-eqb call 2 n2, ne-eqb call 3 n3, ne-eqb call 4 n4, ne-eqb call 5 n5, ne-eqb call 6 n6)
+unknown-call call b n a n1 n2 n3 n4 n5 n6 n9 n10 =
+    simp (ne-eqb call 1 n1, ne-eqb call 2 n2, ne-eqb call 3 n3, ne-eqb call 4 n4, ne-eqb call 5 n5, ne-eqb call 6 n6, ne-eqb call 9 n9, ne-eqb call 10 n10)
 
 -- a view is no longer than the arena
 pub view-short : (a : List ℕ) (b : ℕ) → length (viewOn a b) ≤ length a

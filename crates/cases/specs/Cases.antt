@@ -9,7 +9,7 @@ use lib.Dec.{eqb}
 use Rattle.layout.specs.Numbers.{wordValues}
 use Rattle.layout.specs.declared.Reason.the-variants.{Frame}
 use Rattle.arena.specs.Answers.{Answer, Outcome, success, refusal}
-use Rattle.arena.specs.Calls.{startOn, allocOn, freeOn, reallocOn, reportOn, sizeOn, viewOn}
+use Rattle.arena.specs.Calls.{startOn, allocOn, freeOn, resizeOn, relocateOn, reallocOn, reportOn, sizeOn, viewOn}
 use Rattle.cases.specs.declared.answers.Answered.{Answered}
 use Rattle.cases.specs.declared.replies.Reply.{Reply}
 
@@ -37,7 +37,9 @@ outcomeOf call b n a =
     (cond (eqb call 4) (reallocOn a b n)
     (cond (eqb call 5) (reportOn a)
     (cond (eqb call 6) (sizeOn a b)
-    (unknown a))))))
+    (cond (eqb call 9) (resizeOn a b n)
+    (cond (eqb call 10) (relocateOn a b n)
+    (unknown a))))))))
 
 -- the promise of `answer`: the numbers of the outcome, and its words
 pub record Settles (outcome : Outcome) (x : Answered) (words : List ℕ) : Type 0 where

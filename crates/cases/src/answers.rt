@@ -49,7 +49,7 @@ fn finish_numbers(finish: Finish) -> Answered
     }
 }
 
-// What alloc and realloc answer, as numbers.
+// What alloc, resize, relocate and realloc answer, as numbers.
 fn granted_numbers(granted: Granted) -> Answered
     ensures { λ r. ⌜ r ≡ answered (grantedNumbers granted) ⌝ }
 {
@@ -102,7 +102,7 @@ fn reported_numbers(reported: Reported) -> Answered
     }
 }
 
-// Makes the call of number `call` on the arena; a number that names none of these six is answered as a malformed line is.
+// Makes the call of number `call` on the arena; a number that names none of these eight is answered as a malformed line is.
 pub(crate) fn answer(call: u32, b: u32, n: u32, a: &mut [u32]) -> Answered
     ensures { λ r. ⌜ Settles (outcomeOf call b n (now (a .entry))) r (now (a .exit)) ⌝ }
 {
@@ -113,6 +113,8 @@ pub(crate) fn answer(call: u32, b: u32, n: u32, a: &mut [u32]) -> Answered
         4 => granted_numbers(arena::realloc(a, b, n)),
         5 => reported_numbers(arena::report(a)),
         6 => sized_numbers(arena::size(a, b)),
+        9 => granted_numbers(arena::resize(a, b, n)),
+        10 => granted_numbers(arena::relocate(a, b, n)),
         _ => refused(Reason::Frame),
     }
 }

@@ -6,7 +6,7 @@ use native.Mathlib.Omega.{arith}
 use lib.ListN.{getD}
 use Rattle.layout.specs.Reasons.{number}
 use Rattle.layout.specs.declared.Reason.{Reason}
-use Rattle.layout.specs.declared.Reason.the-variants.{Length, Damaged, NotABlock, Zero, TooLarge, NoRoom, Frame}
+use Rattle.layout.specs.declared.Reason.the-variants.{Length, Damaged, NotABlock, Zero, TooLarge, NoRoom, Frame, WouldMove}
 
 -- the code of a refusal is not that of a success
 pub number-positive : (why : Reason) → 1 ≤ number why
@@ -17,10 +17,11 @@ number-positive Zero = omega arith
 number-positive TooLarge = omega arith
 number-positive NoRoom = omega arith
 number-positive Frame = omega arith
+number-positive WouldMove = omega arith
 
 -- the reason that has a number
 abbrev reasonOf : ℕ → Reason
-reasonOf n = getD (Frame ∷ Length ∷ Damaged ∷ NotABlock ∷ Zero ∷ TooLarge ∷ NoRoom ∷ []) n Frame
+reasonOf n = getD (Frame ∷ Length ∷ Damaged ∷ NotABlock ∷ Zero ∷ TooLarge ∷ NoRoom ∷ Frame ∷ WouldMove ∷ []) n Frame
 
 reason-number : (why : Reason) → reasonOf (number why) ≡ why
 reason-number Length = refl
@@ -30,6 +31,7 @@ reason-number Zero = refl
 reason-number TooLarge = refl
 reason-number NoRoom = refl
 reason-number Frame = refl
+reason-number WouldMove = refl
 
 pub number-injective : (r r′ : Reason) → number r ≡ number r′ → r ≡ r′
 number-injective r r′ e = sym (reason-number r) ∙ ap reasonOf e ∙ reason-number r′

@@ -38,6 +38,7 @@ pub enum Reason {
     TooLarge,
     NoRoom,
     Frame,
+    WouldMove,
 }
 
 // Whether a call may go on.
@@ -58,6 +59,7 @@ pub fn number(why: Reason) -> u32
         Reason::TooLarge => 5,
         Reason::NoRoom => 6,
         Reason::Frame => 7,
+        Reason::WouldMove => 8,
     }
 }
 

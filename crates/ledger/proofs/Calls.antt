@@ -18,9 +18,9 @@ use Rattle.arena.proofs.Gates.{sound-lawful, request-needed}
 use Rattle.arena.proofs.Starting.{whole-lawful}
 use Rattle.arena.proofs.Causes.{Request}
 use Rattle.arena.proofs.Cases.{Case, refuses, does, Starts, starts, start-case, Allots, allots, alloc-case, Frees, frees, free-case, Measures, measures, size-case, Reports, reports, report-case}
-use Rattle.arena.proofs.Regranting.{Regrants, shrinks, grows, moves, realloc-case}
-use Rattle.arena.proofs.Relocating.{relocated}
-use Rattle.ledger.specs.Events.{Call, start, alloc, free, realloc, size, view, report, call, ours}
+use Rattle.arena.proofs.Regranting.{Resizes, shrinks, grows, Relocates, moves, Regrants, in-place, elsewhere, resize-case, relocate-case, realloc-case}
+use Rattle.arena.proofs.Relocating.{relocates}
+use Rattle.ledger.specs.Events.{Call, start, alloc, free, resize, relocate, realloc, size, view, report, call, ours}
 use Rattle.ledger.specs.Ledger.{Ledger, grants, frees, regrants, effect, noted, ifDone, ledgerAfter}
 use Rattle.ledger.specs.Holders.{renamed}
 use Rattle.ledger.proofs.Agreeing.{Agrees}
@@ -52,7 +52,7 @@ module _ (n : ℕ) (a : List ℕ) (ledger : Ledger) (g : Agrees n a ledger) wher
   free-goes : (b : ℕ) (values after : List ℕ) → Frees a b values after → Goes n a ledger (λ c. c) after (noted (frees b) (success values) ledger)
   free-goes b values after (frees e pre s post is) = freed-goes n a ledger g b pre s post is
 
-  -- a realloc that answers the same block renames none
+  -- a call that answers the same block renames none
   same-name : (b c : ℕ) → cond (eqb c b) b c ≡ c
   same-name b c = go (eqb c b) refl
     where
@@ -60,15 +60,21 @@ module _ (n : ℕ) (a : List ℕ) (ledger : Ledger) (g : Agrees n a ledger) wher
       go true q = sym (eqb-true c b q)
       go false q = refl
 
-  realloc-goes : (b w : ℕ) (values after : List ℕ) → Regrants a b w values after → Goes n a ledger (renamed (regrants b) (success values)) after (noted (regrants b) (success values) ledger)
-  realloc-goes b w values after (shrinks e r pre s post is l) =
+  resize-goes : (b w : ℕ) (values after : List ℕ) → Resizes a b w values after → Goes n a ledger (renamed (regrants b) (success values)) after (noted (regrants b) (success values) ledger)
+  resize-goes b w values after (shrinks e r pre s post is l) =
       stays-goes n a ledger g b pre s [] post s (need w) (renamed (regrants b) (success values)) is refl (omega arith) (needed w r) l (same-name b)
-  realloc-goes b w values after (grows e r pre s t post is l m) =
+  resize-goes b w values after (grows e r pre s t post is l m) =
       stays-goes n a ledger g b pre s (gap t ∷ []) post (s + t) (need w) (renamed (regrants b) (success values)) is refl (omega arith) (needed w r) m (same-name b)
-  realloc-goes b w values after (moves e r pre s post is l before t behind fit block at-is ks same) =
+
+  relocate-goes : (b w : ℕ) (values after : List ℕ) → Relocates a b w values after → Goes n a ledger (renamed (regrants b) (success values)) after (noted (regrants b) (success values) ledger)
+  relocate-goes b w values after (moves e r pre s post is before t behind fit block at-is ks same count shorter) =
       rw (same, at-is)
-      (moved-goes n a ledger g b pre s post is before t behind (need w) (fit .same) (needed w r) (fit .enough) (l .own)
-      (relocated a (need w) pre s post before t behind b _ _ e (needed w r) is fit (l .own) refl refl))
+      (moved-goes n a ledger g b pre s post is before t behind (need w) (fit .same) (needed w r) (fit .enough) count shorter
+      (relocates a (need w) pre s post before t behind b _ count _ e (needed w r) is fit (omega arith) (omega arith) refl refl))
+
+  realloc-goes : (b w : ℕ) (values after : List ℕ) → Regrants a b w values after → Goes n a ledger (renamed (regrants b) (success values)) after (noted (regrants b) (success values) ledger)
+  realloc-goes b w values after (in-place d) = resize-goes b w values after d
+  realloc-goes b w values after (elsewhere short d) = relocate-goes b w values after d
 
   size-goes : (b : ℕ) (values after : List ℕ) → Measures a b values after → Goes n a ledger (λ c. c) after ledger
   size-goes b values after (measures e pre s post is) = unchanged-goes n a ledger g
@@ -80,6 +86,8 @@ module _ (n : ℕ) (a : List ℕ) (ledger : Ledger) (g : Agrees n a ledger) wher
   call-goes start = case-goes start g start-goes (start-case a)
   call-goes (alloc w) = case-goes (alloc w) g (alloc-goes w) (alloc-case a w)
   call-goes (free b) = case-goes (free b) g (free-goes b) (free-case a b)
+  call-goes (resize b w) = case-goes (resize b w) g (resize-goes b w) (resize-case a b w)
+  call-goes (relocate b w) = case-goes (relocate b w) g (relocate-goes b w) (relocate-case a b w)
   call-goes (realloc b w) = case-goes (realloc b w) g (realloc-goes b w) (realloc-case a b w)
   call-goes (size b) = case-goes (size b) g (size-goes b) (size-case a b)
   call-goes (view b) = unchanged-goes n a ledger g

@@ -2,9 +2,9 @@
 use mathlib.Core.Path.{sym, _∙_}
 use mathlib.Core.Bool.{true≢false}
 use Rattle.arena.proofs.Reasons.{start-done}
-use Rattle.ledger.specs.Events.{alloc, realloc, ours}
-use Rattle.ledger.specs.Demands.{Starts, Lengths, Apart, Inside, Keeps, Lasts, Sums, RoomForAlloc, RoomForRealloc, Known}
-use Rattle.ledger.proofs.Rooms.{alloc-room, realloc-room}
+use Rattle.ledger.specs.Events.{alloc, resize, relocate, realloc, ours}
+use Rattle.ledger.specs.Demands.{Starts, Lengths, Apart, Inside, Keeps, Lasts, Sums, RoomForAlloc, RoomForResize, RoomForRelocate, RoomForRealloc, Known}
+use Rattle.ledger.proofs.Rooms.{alloc-room, resize-room, relocate-room, realloc-room}
 use Rattle.ledger.proofs.Showing.{lies-apart, lies-inside, adds-up, tells}
 use Rattle.ledger.proofs.Runs.{block-keeps, run-agrees}
 use Rattle.ledger.proofs.Lasting.{stored-lasts}
@@ -32,6 +32,12 @@ sums n s run = adds-up n (s .words) (s .ledger) (run-agrees run)
 
 pub room-for-alloc : RoomForAlloc ours alloc
 room-for-alloc n s run = alloc-room n (s .words) (s .ledger) (run-agrees run)
+
+pub room-for-resize : RoomForResize ours resize
+room-for-resize n s run = resize-room n (s .words) (s .ledger) (run-agrees run)
+
+pub room-for-relocate : RoomForRelocate ours relocate
+room-for-relocate n s run = relocate-room n (s .words) (s .ledger) (run-agrees run)
 
 pub room-for-realloc : RoomForRealloc ours realloc
 room-for-realloc n s run = realloc-room n (s .words) (s .ledger) (run-agrees run)

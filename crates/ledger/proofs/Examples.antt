@@ -1,4 +1,4 @@
--- Runs that are there, computed: that of document 01's table, and its move, which goes on to a cut and a free, with what was stored last in the block.
+-- Runs that are there, computed: that of document 01's table; its move, which goes on to a cut and a free, with what was stored last in the block; and the same move by resize and relocate, which goes on to a move to a shorter block.
 use Prim.Native.Nat.{ℕ, _<_}
 use mathlib.Core.Path.{_≡_, refl, ap}
 use mathlib.Core.Logic.{_≢_, inl, ⊎-elim}
@@ -11,8 +11,8 @@ use Rattle.layout.specs.Reasons.{arenaGate, requestGate}
 use Rattle.arena.specs.Answers.{Answer, success}
 use Rattle.arena.specs.Spots.{lowest}
 use Rattle.arena.specs.Rules.{joined, copied}
-use Rattle.arena.specs.Calls.{startOn, allocBy, freeOn, reallocOn, reportOn}
-use Rattle.ledger.specs.Events.{Call, start, alloc, free, realloc, report, Event, call, store, ours}
+use Rattle.arena.specs.Calls.{startOn, allocBy, freeOn, regrantBy, reportOn}
+use Rattle.ledger.specs.Events.{Call, start, alloc, free, resize, relocate, realloc, report, Event, call, store, ours}
 use Rattle.ledger.specs.Ledger.{Entry, enter, strike, told}
 use Rattle.ledger.specs.Gaps.{gaps}
 use Rattle.ledger.specs.Runs.{State, Allowed, answerTo, after, Run, begun, next}
@@ -94,17 +94,17 @@ table = play freshRun (map call rowCalls) (calls-allowed rowCalls fresh)
 
 -- 010020: 0100, and then what the rows say
 pub table-answers : answers table ≡ success [] ∷ rowAnswers
-unfolding startOn allocBy freeOn reallocOn reportOn arenaGate requestGate sound chunksOf walked walkFrom walk meet lowest joined copied written write header
+unfolding startOn allocBy freeOn regrantBy reportOn arenaGate requestGate sound chunksOf walked walkFrom walk meet lowest joined copied written write header
 table-answers = refl
 
 -- three blocks are held at the end
 pub table-ledger : afterAll (map call rowCalls) fresh .ledger ≡ entry 4 4 ∷ entry 10 14 ∷ entry 26 6 ∷ []
-unfolding startOn allocBy freeOn reallocOn reportOn arenaGate requestGate sound chunksOf walked walkFrom walk meet lowest joined copied written write header enter strike
+unfolding startOn allocBy freeOn regrantBy reportOn arenaGate requestGate sound chunksOf walked walkFrom walk meet lowest joined copied written write header enter strike
 table-ledger = refl
 
 -- what the first five rows after the start leave: blocks 10 and 26, and the gaps below, between and above them
 pub fifth-ledger : afterAll (map call (take 5 rowCalls)) fresh .ledger ≡ entry 10 10 ∷ entry 26 6 ∷ []
-unfolding startOn allocBy freeOn reallocOn reportOn arenaGate requestGate sound chunksOf walked walkFrom walk meet lowest joined copied written write header enter strike
+unfolding startOn allocBy freeOn regrantBy reportOn arenaGate requestGate sound chunksOf walked walkFrom walk meet lowest joined copied written write header enter strike
 fifth-ledger = refl
 
 pub fifth-gaps : gaps 32 (afterAll (map call (take 5 rowCalls)) fresh .ledger) ≡ 6 ∷ 4 ∷ 0 ∷ []
@@ -185,12 +185,12 @@ movedState =
     }
 
 unfoldable pub moved : Run ours 32 movedState
-unfolding reallocOn arenaGate requestGate sound chunksOf walked walkFrom walk meet lowest joined copied written write header enter strike
+unfolding regrantBy arenaGate requestGate sound chunksOf walked walkFrom walk meet lowest joined copied written write header enter strike
 moved = play stored (call (realloc 26 6) ∷ []) (tt, tt)
 
 -- alloc 2 gives 30, alloc 2 gives 26, realloc 26 to 6 gives block 18 with 6 granted
 pub move-answers : answers moved ≡ success [] ∷ success (30 ∷ 2 ∷ []) ∷ success (26 ∷ 2 ∷ []) ∷ success (18 ∷ 6 ∷ []) ∷ []
-unfolding startOn allocBy reallocOn arenaGate requestGate sound chunksOf walked walkFrom walk meet lowest written write header held stored moved
+unfolding startOn allocBy regrantBy arenaGate requestGate sound chunksOf walked walkFrom walk meet lowest written write header held stored moved
 move-answers = refl
 
 pub move-words : take 2 (drop 18 (movedState .words)) ≡ take 2 (drop 26 (storedState .words))
@@ -203,11 +203,11 @@ move-chunks = refl
 
 -- what was stored last in block 26 is so in block 18
 pub five-moved : StoredLast ours 32 movedState 18 0 5
-unfolding reallocOn arenaGate requestGate sound chunksOf walked walkFrom walk meet lowest joined copied written write header enter strike
+unfolding regrantBy arenaGate requestGate sound chunksOf walked walkFrom walk meet lowest joined copied written write header enter strike
 five-moved = regranted (stored-elsewhere (just held 26 0 5 five-allowed) 1 7 seven-allowed clash) 6 (omega arith)
 
 pub seven-moved : StoredLast ours 32 movedState 18 1 7
-unfolding reallocOn arenaGate requestGate sound chunksOf walked walkFrom walk meet lowest joined copied written write header enter strike
+unfolding regrantBy arenaGate requestGate sound chunksOf walked walkFrom walk meet lowest joined copied written write header enter strike
 seven-moved = regranted (just (next held (store 26 0 5) five-allowed) 26 1 7 seven-allowed) 6 (omega arith)
 
 -- ---- then the last word of the block is stored, the block is cut, and at last freed
@@ -235,7 +235,7 @@ cutState =
     }
 
 unfoldable pub cut : Run ours 32 cutState
-unfolding reallocOn arenaGate requestGate sound chunksOf walked walkFrom walk meet lowest joined written write header enter strike
+unfolding regrantBy arenaGate requestGate sound chunksOf walked walkFrom walk meet lowest joined written write header enter strike
 cut = play filled (call (realloc 18 1) ∷ []) (tt, tt)
 
 -- the block is merged with both its neighbours, and the headers that are swallowed stay
@@ -257,16 +257,16 @@ freed = play cut (call (free 18) ∷ []) (tt, tt)
 
 -- the cut block has 2 words, and the free is done
 pub freed-answers : answers freed ≡ answers moved ++ success (18 ∷ 2 ∷ []) ∷ success [] ∷ []
-unfolding startOn allocBy freeOn reallocOn arenaGate requestGate sound chunksOf walked walkFrom walk meet lowest written write header held stored moved filled cut freed
+unfolding startOn allocBy freeOn regrantBy arenaGate requestGate sound chunksOf walked walkFrom walk meet lowest written write header held stored moved filled cut freed
 freed-answers = refl
 
 -- the words below the cut are still what was stored last
 pub five-left : StoredLast ours 32 cutState 18 0 5
-unfolding reallocOn arenaGate requestGate sound chunksOf walked walkFrom walk meet lowest joined written write header enter strike
+unfolding regrantBy arenaGate requestGate sound chunksOf walked walkFrom walk meet lowest joined written write header enter strike
 five-left = regranted (stored-elsewhere five-moved 5 9 nine-allowed (λ is. omega arith)) 1 (omega arith)
 
 pub seven-left : StoredLast ours 32 cutState 18 1 7
-unfolding reallocOn arenaGate requestGate sound chunksOf walked walkFrom walk meet lowest joined written write header enter strike
+unfolding regrantBy arenaGate requestGate sound chunksOf walked walkFrom walk meet lowest joined written write header enter strike
 seven-left = regranted (stored-elsewhere seven-moved 5 9 nine-allowed (λ is. omega arith)) 1 (omega arith)
 
 -- the 9 is stored last at place 5 until the block is cut below it
@@ -274,10 +274,39 @@ pub nine-stored : StoredLast ours 32 filledState 18 5 9
 nine-stored = just moved 18 5 9 nine-allowed
 
 pub nine-cut : Cut ours (call (realloc 18 1)) filledState 18 5
-unfolding reallocOn arenaGate requestGate sound chunksOf walked walkFrom walk meet lowest
+unfolding regrantBy arenaGate requestGate sound chunksOf walked walkFrom walk meet lowest
 nine-cut = (refl, refl, omega arith)
 
 -- and the block ends when it is freed
 pub block-ended : Ended ours (call (free 18)) cutState 18
 unfolding freeOn arenaGate sound chunksOf walked walkFrom walk meet lowest
 block-ended = (refl, inl refl)
+
+-- ---- the same move as resize and relocate, and a move to a shorter block
+
+-- the resize of block 26 is refused, and the move makes of it what the realloc made of it
+unfoldable pub halves : Run ours 32 movedState
+unfolding regrantBy arenaGate requestGate sound chunksOf walked walkFrom walk meet lowest joined copied written write header enter strike
+halves = play stored (call (resize 26 6) ∷ call (relocate 26 6) ∷ []) (tt, (tt, tt))
+
+-- block 18, which has 6 words, moves to block 14, which has 2; the chunk that is freed merges with the free one above it
+abbrev shorterState : State
+shorterState =
+    record {
+      words =
+          32 ∷ 2 ∷ 10 ∷ 16 ∷ 0 ∷ 0 ∷ 0 ∷ 0
+          ∷ 0 ∷ 0 ∷ 0 ∷ 0 ∷ 4 ∷ 4294967295 ∷ 5 ∷ 7
+          ∷ 12 ∷ 0 ∷ 5 ∷ 7 ∷ 0 ∷ 0 ∷ 0 ∷ 0
+          ∷ 4 ∷ 0 ∷ 5 ∷ 7 ∷ 4 ∷ 4294967295 ∷ 0 ∷ 0
+          ∷ [];
+      ledger = entry 14 2 ∷ entry 30 2 ∷ [];
+    }
+
+unfoldable pub shortened : Run ours 32 shorterState
+unfolding regrantBy arenaGate requestGate sound chunksOf walked walkFrom walk meet lowest joined copied written write header enter strike
+shortened = play halves (call (relocate 18 1) ∷ []) (tt, tt)
+
+-- the resize is refused with 8, and both moves are done
+pub halves-answers : answers shortened ≡ answers stored ++ record { code = 8; values = 0 ∷ 0 ∷ [] } ∷ success (18 ∷ 6 ∷ []) ∷ success (14 ∷ 2 ∷ []) ∷ []
+unfolding startOn allocBy regrantBy arenaGate requestGate sound chunksOf walked walkFrom walk meet lowest written write header held stored halves shortened
+halves-answers = refl

@@ -3,7 +3,7 @@ use mathlib.Core.Path.{_≡_, refl, sym, ap, _∙_}
 use mathlib.Core.Logic.{_≢_, _⊎_, inl, inr}
 use mathlib.Core.Bool.{Bool, true, false, cond}
 use mathlib.Core.List.{List, _∷_, _++_}
-use Prim.Native.Nat.{ℕ, _+_, _-_, _≤_, _<_}
+use Prim.Native.Nat.{ℕ, _+_, _-_, _≤_, _<_, min}
 use native.Mathlib.Omega.{arith}
 use lib.Dec.{eqb}
 use lib.ListN.{getD}
@@ -13,11 +13,10 @@ use Rattle.layout.specs.Chunks.{Chunk, free, written}
 use Rattle.layout.specs.Walk.{chunksOf}
 use Rattle.layout.proofs.Written.{length-written}
 use Rattle.arena.specs.Spots.{held}
-use Rattle.arena.specs.Rules.{cut, joined, copied, released}
+use Rattle.arena.specs.Rules.{taken, cut, joined, copied, released}
 use Rattle.arena.specs.Inside.Places.{Needed}
 use Rattle.arena.proofs.Blocks.{BlockAt}
 use Rattle.arena.proofs.Copying.{length-copied, copied-other, copied-there}
-use Rattle.arena.proofs.Moving.{cut-numbers}
 use Rattle.arena.proofs.Relocating.{Relocated}
 use Rattle.ledger.specs.Ledger.{Entry, Ledger, enter, strike, Listed, ends}
 use Rattle.ledger.proofs.Blocks.{blocksFrom}
@@ -27,7 +26,8 @@ use Rattle.ledger.proofs.Going.{Goes, written-listed, freed-goes, newEn
 
 module _ (n : ℕ) (a : List ℕ) (ledger : Ledger) (g : Agrees n a ledger)
     (b : ℕ) (pre : List Chunk) (s : ℕ) (post : List Chunk) (is : BlockAt a b pre s post)
-    (before : List Chunk) (t : ℕ) (after : List Chunk) (needed : ℕ) (same : chunksOf a ≡ before ++ free t ∷ after) (nd : Needed needed) (enough : needed ≤ t) (longer : s < needed) where
+    (before : List Chunk) (t : ℕ) (after : List Chunk) (needed : ℕ) (same : chunksOf a ≡ before ++ free t ∷ after) (nd : Needed needed) (enough : needed ≤ t)
+    (count : ℕ) (shorter : count ≡ min (s - headerWords) (taken needed t - headerWords)) where
   abbrev new : Entry
   new = newEntry before t needed
 
@@ -36,7 +36,7 @@ module _ (n : ℕ) (a : List ℕ) (ledger : Ledger) (g : Agrees n a ledger)
 
   -- the words once the need was granted and the words were copied
   abbrev copiedWords : List ℕ
-  copiedWords = copied b (new .block) (s - headerWords) (written granted a)
+  copiedWords = copied b (new .block) count (written granted a)
 
   -- the ledger with the old block and the new one
   abbrev both : Ledger
@@ -57,7 +57,7 @@ module _ (n : ℕ) (a : List ℕ) (ledger : Ledger) (g : Agrees n a ledger)
     both-agree =
         record {
           is-sound = r .is-sound;
-          long = length-copied b (new .block) (written granted a) (s - headerWords) ∙ length-written granted a ∙ g .long;
+          long = length-copied b (new .block) (written granted a) count ∙ length-written granted a ∙ g .long;
           lists = both-lists ∙ ap (blocksFrom firstChunk) (sym (r .chunks));
         }
 
@@ -72,34 +72,34 @@ module _ (n : ℕ) (a : List ℕ) (ledger : Ledger) (g : Agrees n a ledger)
     new-other : new .block ≢ b
     new-other q = granted-fresh n a ledger g before t after needed same nd enough _ old-listed (sym q)
 
-    -- the words that were copied have room in it
-    room : s - headerWords ≤ new .granted
-    room = omega (arith, cut-numbers needed t enough .enough)
+    -- the entry of its number has its words
+    new-long : (f : Entry) → Listed both f → f .block ≡ new .block → f .granted ≡ new .granted
+    new-long f m p = ap (λ (d : Entry). d .granted) (laid-same firstChunk n both f new both-laid m (enter-listed new ledger) p)
 
-    -- the old block has all its words in the new one
-    copied-new : (e : Entry) → Listed ledger e → e .block ≡ b → (i : ℕ) → i < e .granted → getD copiedWords (new .block + i) 0 ≡ getD a (e .block + i) 0
-    copied-new e l q i h =
+    -- the old block has its words in the new one, as many as both have
+    copied-new : (e : Entry) → Listed ledger e → e .block ≡ b → (i : ℕ) → i < e .granted → i < new .granted → getD copiedWords (new .block + i) 0 ≡ getD a (e .block + i) 0
+    copied-new e l q i h j =
         let m : ends new ≤ n = laid-listed firstChunk n both new both-laid (enter-listed new ledger) .1 in
         let f : e .granted ≡ s - headerWords = ap (λ (d : Entry). d .granted) (laid-same firstChunk n ledger e _ (agrees-laid n a ledger g) l old-listed q) in
-        copied-there b (new .block) (written granted a) (s - headerWords) i (omega arith) (rw length-written (omega (arith, g .long, room)))
+        copied-there b (new .block) (written granted a) count i (omega (arith, shorter)) (rw length-written (omega (arith, g .long, shorter)))
         ∙ ap (λ (c : ℕ). getD (written granted a) (c + i) 0) (sym q)
         ∙ before-copy e (listed-enter new ledger e l) i h
 
     -- every other block is left alone
     copied-beside : (f : Entry) → Listed both f → f .block ≢ new .block → (i : ℕ) → i < f .granted → getD copiedWords (f .block + i) 0 ≡ getD a (f .block + i) 0
     copied-beside f l q i h =
-        copied-other b (new .block) (written granted a) (s - headerWords) (f .block + i) (beside (laid-order firstChunk n both f new both-laid l (enter-listed new ledger)))
+        copied-other b (new .block) (written granted a) count (f .block + i) (beside (laid-order firstChunk n both f new both-laid l (enter-listed new ledger)))
         ∙ before-copy f l i h
       where
-        beside : (f ≡ new) ⊎ ((ends f + headerWords ≤ new .block) ⊎ (ends new + headerWords ≤ f .block)) → (f .block + i < new .block) ⊎ (new .block + (s - headerWords) ≤ f .block + i)
+        beside : (f ≡ new) ⊎ ((ends f + headerWords ≤ new .block) ⊎ (ends new + headerWords ≤ f .block)) → (f .block + i < new .block) ⊎ (new .block + count ≤ f .block + i)
         beside (inl p) = absurd (q (ap (λ (e : Entry). e .block) p))
         beside (inr (inl p)) = inl (omega arith)
-        beside (inr (inr p)) = inr (omega (arith, room))
+        beside (inr (inr p)) = inr (omega (arith, shorter))
 
     -- a block that goes on keeps its words, up to the free of the old one
     carried-on : (e f : Entry) → Listed ledger e → Listed both f → (moved : Bool) → eqb (e .block) b ≡ moved → f .block ≡ cond moved (new .block) (e .block)
         → (i : ℕ) → i < e .granted → i < f .granted → getD copiedWords (f .block + i) 0 ≡ getD a (e .block + i) 0
-    carried-on e f l m true q p i h j = ap (λ (c : ℕ). getD copiedWords (c + i) 0) p ∙ copied-new e l (eqb-true (e .block) b q) i h
+    carried-on e f l m true q p i h j = ap (λ (c : ℕ). getD copiedWords (c + i) 0) p ∙ copied-new e l (eqb-true (e .block) b q) i h (omega (arith, new-long f m p))
     carried-on e f l m false q p i h j =
         copied-beside f m (λ u. granted-fresh n a ledger g before t after needed same nd enough e l (sym p ∙ u)) i j
         ∙ ap (λ (c : ℕ). getD a (c + i) 0) p

@@ -1,4 +1,4 @@
--- When alloc and realloc are refused for want of room, told by the ledger: the gaps that its blocks leave are the arena's free chunks, and gaps of 0 words.
+-- When alloc, relocate and realloc are refused for want of room, and when a resize would move its block, told by the ledger: the gaps that its blocks leave are the arena's free chunks, and gaps of 0 words.
 use mathlib.Core.Path.{_≡_, refl, sym, ap, _∙_}
 use mathlib.Core.Logic.{_↔_, Iff·symm, Iff·trans}
 use mathlib.Core.Bool.{true, false}
@@ -10,31 +10,34 @@ use Rattle.layout.specs.Chunks.{Chunk, live, total}
 use Rattle.layout.specs.Walk.{sound, chunksOf}
 use Rattle.layout.specs.Reasons.{number}
 use Rattle.layout.specs.declared.Reason.{Reason}
-use Rattle.layout.specs.declared.Reason.the-variants.{NoRoom}
+use Rattle.layout.specs.declared.Reason.the-variants.{NoRoom, WouldMove}
 use Rattle.layout.proofs.Holds.{Sizes, sizes-split, total-append}
 use Rattle.arena.specs.Inside.Rooms.{roomWords}
 use Rattle.arena.specs.Answers.{Answer}
-use Rattle.arena.specs.Calls.{allocOn, reallocOn}
+use Rattle.arena.specs.Calls.{allocOn, resizeOn, relocateOn, reallocOn}
 use Rattle.arena.proofs.Joining.{spaced-after}
 use Rattle.arena.proofs.Blocks.{BlockAt, NoGap, block-held}
-use Rattle.arena.proofs.Causes.{Request, Grounds, Short, ShortBlock}
+use Rattle.arena.proofs.Causes.{Request, Grounds, Short, ShortBlock, RegrantRefused}
 use Rattle.arena.proofs.Regranting.{short-room}
-use Rattle.arena.proofs.Reasons.{only-room, alloc-refused, alloc-done, realloc-refused, realloc-done}
-use Rattle.ledger.specs.Ledger.{Entry, Ledger, Done, ends}
-use Rattle.ledger.specs.Gaps.{gapFrom, gaps, EachShorter}
+use Rattle.arena.proofs.Reasons.{only-last, alloc-refused, alloc-done, resize-refused, resize-done, relocate-refused, relocate-done, realloc-refused, realloc-done}
+use Rattle.ledger.specs.Ledger.{Entry, Ledger, Done, Listed, ends}
+use Rattle.ledger.specs.Gaps.{gapFrom, gaps, EachShorter, RoomShorter}
 use Rattle.ledger.specs.Demands.{LawfulRequest, RefusedWhen}
 use Rattle.ledger.proofs.Blocks.{Chunked}
-use Rattle.ledger.proofs.Agreeing.{Agrees, chunked-block, agrees-lawful, agrees-chunked}
+use Rattle.ledger.proofs.Agreeing.{Agrees, chunked-block, agrees-lawful, agrees-chunked, listed-chunked}
 use Rattle.ledger.proofs.Gaps.{gapsIn, gaps-blocks, gaps-shorter, gap-above}
 
--- a call on a sound arena, where block and request give no reason, is refused for want of room or done
-refused-when : (a : List ℕ) (block zero large room : Type 0) → sound a ≡ true → (block → ⊥) → (zero → ⊥) → (large → ⊥) → (TooShort : Type 0) (answer : Answer)
-    → (answer .code ≡ number NoRoom) ↔ Grounds a block zero large room NoRoom → Done answer ↔ ((why : Reason) → Grounds a block zero large room why → ⊥) → room ↔ TooShort
-    → RefusedWhen NoRoom TooShort answer
-refused-when a block zero large room e b z m TooShort answer refused done short =
+-- a call on a sound arena, where block and request give no reason, is refused for the last of its reasons or done
+refused-when : (a : List ℕ) (block zero large room stuck : Type 0) → sound a ≡ true → (block → ⊥) → (zero → ⊥) → (large → ⊥)
+    → (last : Reason) (TooShort : Type 0) (answer : Answer)
+    → (answer .code ≡ number last) ↔ Grounds a block zero large room stuck last → Done answer ↔ ((why : Reason) → Grounds a block zero large room stuck why → ⊥)
+    → (room → TooShort) → (stuck → TooShort) → (TooShort → Grounds a block zero large room stuck last)
+    → RefusedWhen last TooShort answer
+refused-when a block zero large room stuck e b z m last TooShort answer refused done full held short =
+    let only = only-last a block zero large room stuck e b z m TooShort full held in
     record {
-      refused = (λ q. short .0 (refused .0 q .1), λ h. refused .1 (e, short .1 h));
-      done = (λ q h. done .0 q NoRoom (e, short .1 h), λ enough. done .1 (λ why h. enough (short .0 (only-room a block zero large room e b z m why h))));
+      refused = (λ q. only last (refused .0 q), λ h. refused .1 (short h));
+      done = (λ q h. done .0 q last (short h), λ enough. done .1 (λ why h. enough (only why h)));
     }
 
 -- ---- the gaps of the ledger and the chunks of the arena
@@ -68,7 +71,7 @@ module _ (n : ℕ) (a : List ℕ) (ledger : Ledger) (agrees : Agrees n a ledger)
       (cc, cc)
 
   short-block : (below above : Ledger) (e : Entry) → ledger ≡ below ++ e ∷ above → (w : ℕ)
-      → ShortBlock a (e .block) (need w) ↔ (headerWords + e .granted + gapFrom n (ends e) above < need w)
+      → ShortBlock a (e .block) (need w) ↔ RoomShorter (need w) n e above
   short-block below above e q w =
       let k = agrees-chunked n a ledger agrees below e above q in
       let is = chunked-block k in
@@ -81,22 +84,44 @@ module _ (n : ℕ) (a : List ℕ) (ledger : Ledger) (agrees : Agrees n a ledger)
   lawful-request : (w : ℕ) → LawfulRequest n w → Request a w
   lawful-request w r = (r .0, omega (arith, agrees .long))
 
-  -- ---- the two calls
+  -- ---- the calls
 
   pub alloc-room : (w : ℕ) → LawfulRequest n w → RefusedWhen NoRoom (EachShorter (need w) (gaps n ledger)) (allocOn a w .answer)
   alloc-room w r =
       let gap = no-gap w in
       let request = lawful-request w r in
-      refused-when a _ _ _ _ (agrees .is-sound) (λ h. h) (λ z. omega arith) (λ m. omega arith) _ _ (alloc-refused a w NoRoom) (alloc-done a w)
-      (λ h. gap .0 (h .1), λ short. (request, gap .1 short))
+      refused-when a _ _ _ _ _ (agrees .is-sound) (λ h. h) (λ z. omega arith) (λ m. omega arith) _ _ _ (alloc-refused a w NoRoom) (alloc-done a w)
+      (λ h. gap .0 (h .1)) (λ h. absurd h) (λ short. (agrees .is-sound, (request, gap .1 short)))
 
-  pub realloc-room : (below above : Ledger) (e : Entry) → ledger ≡ below ++ e ∷ above → (w : ℕ) → LawfulRequest n w
-      → RefusedWhen NoRoom (EachShorter (need w) (gaps n ledger) × (headerWords + e .granted + gapFrom n (ends e) above < need w)) (reallocOn a (e .block) w .answer)
-  realloc-room below above e q w r =
-      let gap = no-gap w in
-      let own = short-block below above e q w in
+  -- a call that grants a block of the ledger anew
+  regrant-room : (pre : List Chunk) (s : ℕ) (post : List Chunk) (b : ℕ) → BlockAt a b pre s post → (w : ℕ) → LawfulRequest n w → (room stuck : Type 0) (last : Reason) (TooShort : Type 0) (answer : Answer)
+      → (answer .code ≡ number last) ↔ RegrantRefused a b w room stuck last → Done answer ↔ ((why : Reason) → RegrantRefused a b w room stuck why → ⊥)
+      → (room → TooShort) → (stuck → TooShort) → (TooShort → RegrantRefused a b w room stuck last)
+      → RefusedWhen last TooShort answer
+  regrant-room pre s post b is w r room stuck last TooShort answer =
       let request = lawful-request w r in
-      let k = agrees-chunked n a ledger agrees below e above q in
-      refused-when a _ _ _ _ (agrees .is-sound) (λ none. none (k .pre) (k .s) (k .post) (chunked-block k)) (λ h. omega (arith, h .1)) (λ h. omega (arith, h .1)) _ _
-      (realloc-refused a (e .block) w NoRoom) (realloc-done a (e .block) w)
-      (λ h. (gap .0 (h .2), own .0 (h .1)), λ short. (request, own .1 (short .1), gap .1 (short .0)))
+      refused-when a _ _ _ room stuck (agrees .is-sound) (λ none. none pre s post is) (λ h. omega (arith, h .1)) (λ h. omega (arith, h .1)) last TooShort answer
+
+  pub relocate-room : (e : Entry) → Listed ledger e → (w : ℕ) → LawfulRequest n w → RefusedWhen NoRoom (EachShorter (need w) (gaps n ledger)) (relocateOn a (e .block) w .answer)
+  relocate-room e listed w r =
+      let gap = no-gap w in
+      let (above, k) = listed-chunked n a ledger agrees e listed in
+      let is = chunked-block k in
+      regrant-room (k .pre) (k .s) (k .post) (e .block) is w r _ _ _ _ _ (relocate-refused a (e .block) w NoRoom) (relocate-done a (e .block) w)
+      (λ h. gap .0 (h .2)) (λ h. absurd h) (λ short. (agrees .is-sound, (lawful-request w r, (k .pre, k .s, k .post, is), gap .1 short)))
+
+  module _ (below above : Ledger) (e : Entry) (q : ledger ≡ below ++ e ∷ above) (w : ℕ) (r : LawfulRequest n w) where
+    pub resize-room : RefusedWhen WouldMove (RoomShorter (need w) n e above) (resizeOn a (e .block) w .answer)
+    resize-room =
+        let own = short-block below above e q w in
+        let k = agrees-chunked n a ledger agrees below e above q in
+        regrant-room (k .pre) (k .s) (k .post) (e .block) (chunked-block k) w r _ _ _ _ _ (resize-refused a (e .block) w WouldMove) (resize-done a (e .block) w)
+        (λ h. absurd h) (λ h. own .0 (h .1)) (λ short. (agrees .is-sound, (lawful-request w r, own .1 short)))
+
+    pub realloc-room : RefusedWhen NoRoom (EachShorter (need w) (gaps n ledger) × RoomShorter (need w) n e above) (reallocOn a (e .block) w .answer)
+    realloc-room =
+        let gap = no-gap w in
+        let own = short-block below above e q w in
+        let k = agrees-chunked n a ledger agrees below e above q in
+        regrant-room (k .pre) (k .s) (k .post) (e .block) (chunked-block k) w r _ _ _ _ _ (realloc-refused a (e .block) w NoRoom) (realloc-done a (e .block) w)
+        (λ h. (gap .0 (h .2), own .0 (h .1))) (λ h. absurd h) (λ short. (agrees .is-sound, (lawful-request w r, own .1 (short .1), gap .1 (short .0))))

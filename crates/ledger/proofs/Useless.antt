@@ -15,12 +15,12 @@ use Rattle.layout.specs.Reasons.{arenaGate, requestGate}
 use Rattle.arena.specs.Answers.{success}
 use Rattle.arena.specs.Spots.{lowest}
 use Rattle.arena.specs.Rules.{joined, copied}
-use Rattle.arena.specs.Calls.{startOn, allocBy, reallocOn, reportOn}
-use Rattle.ledger.specs.Events.{Call, start, alloc, free, realloc, size, view, report, call, store, Library, ours}
+use Rattle.arena.specs.Calls.{startOn, allocBy, regrantBy, reportOn}
+use Rattle.ledger.specs.Events.{Call, start, alloc, free, resize, relocate, realloc, size, view, report, call, store, Library, ours}
 use Rattle.ledger.specs.Ledger.{enter, strike, told, Done, begins, ends}
 use Rattle.ledger.specs.Runs.{Allowed, Run, begun, next}
 use Rattle.ledger.specs.Holders.{just, still}
-use Rattle.ledger.specs.Demands.{Starts, Lengths, Apart, Inside, Keeps, Lasts, Sums, RoomForAlloc, RoomForRealloc, freeWordsIn, liveBlocksIn, Known}
+use Rattle.ledger.specs.Demands.{Starts, Lengths, Apart, Inside, Keeps, Lasts, Sums, RoomForAlloc, RoomForResize, RoomForRelocate, RoomForRealloc, freeWordsIn, liveBlocksIn, Known}
 use Rattle.ledger.proofs.Examples.{clash}
 
 -- ---- what the room rule asks of a new arena: its first alloc is done
@@ -199,6 +199,65 @@ never-regrants library refuses room known regrants =
     let enough = known 6 _ (o .started) .alloc-grants 2 (o .done) in
     refuses (e .block) 2 _ (regrants 6 _ (o .once) [] [] e refl 2 (omega arith) .done .1 (λ short. omega (arith, short .1, enough)))
 
+-- ---- one that never resizes, and one that moves a block on a resize
+
+-- resize is never done, for whatever reasons and whatever it writes
+abbrev pub NeverResizes : Library → Type 0
+NeverResizes library = (b w : ℕ) (a : List ℕ) → Done (library (resize b w) a .answer) → ⊥
+
+-- a resize that is done answers another block
+abbrev pub ResizeMoves : Library → Type 0
+ResizeMoves library = (b w : ℕ) (a : List ℕ) → Done (library (resize b w) a .answer) → told (library (resize b w) a .answer) .block ≢ b
+
+-- of a library that keeps the room rules of alloc and resize and grants enough, a resize is done: a block has room for the words that it has
+a-resize : (library : Library) → RoomForAlloc library alloc → Known library → RoomForResize library resize
+    → let a = library start (replicate 6 0) .words in let first = library (alloc 2) a in Done (library (resize (told (first .answer) .block) 2) (first .words) .answer)
+a-resize library room known resizes =
+    let o = in-six library room in
+    let e = told (library (alloc 2) (library start (replicate 6 0) .words) .answer) in
+    let enough = known 6 _ (o .started) .alloc-grants 2 (o .done) in
+    resizes 6 _ (o .once) [] [] e refl 2 (omega arith) .done .1 (λ short. omega (arith, short, enough))
+
+-- so it cannot be one that never resizes
+pub never-resizes : (library : Library) → NeverResizes library → RoomForAlloc library alloc → Known library → RoomForResize library resize → ⊥
+never-resizes library refuses room known resizes = refuses _ 2 _ (a-resize library room known resizes)
+
+-- nor one that moves a block on a resize: the number is known to stay
+pub resize-moves : (library : Library) → ResizeMoves library → RoomForAlloc library alloc → Known library → RoomForResize library resize → ⊥
+resize-moves library moves room known resizes =
+    let done = a-resize library room known resizes in
+    moves _ 2 _ done (known 6 _ (in-six library room .once) .resize-stays _ 2 done)
+
+-- ---- one that never relocates, and one that leaves the block where it is
+
+-- relocate is never done, for whatever reasons and whatever it writes
+abbrev pub NeverRelocates : Library → Type 0
+NeverRelocates library = (b w : ℕ) (a : List ℕ) → Done (library (relocate b w) a .answer) → ⊥
+
+-- a relocate that is done answers the block that it was given
+abbrev pub RelocateStays : Library → Type 0
+RelocateStays library = (b w : ℕ) (a : List ℕ) → Done (library (relocate b w) a .answer) → told (library (relocate b w) a .answer) .block ≡ b
+
+-- of a library that keeps the room rules of alloc and relocate and grants just the need, a relocate is done: of 16 words, the first block leaves room for a second
+a-relocate : (library : Library) → RoomForAlloc library alloc → Known library → RoomForRelocate library relocate
+    → let a = library start (replicate 16 0) .words in let first = library (alloc 2) a in Done (library (relocate (told (first .answer) .block) 2) (first .words) .answer)
+a-relocate library room known relocates =
+    let o = has-once library room (replicate 16 0) 2 refl (omega arith) in
+    let e = told (library (alloc 2) (library start (replicate 16 0) .words) .answer) in
+    let small = known 16 _ (o .started) .alloc-grants 2 (o .done) in
+    relocates 16 _ (o .once) e (inl refl) 2 (omega arith) .done .1 (λ short. omega (arith, short, small))
+
+-- so it cannot be one that never relocates
+pub never-relocates : (library : Library) → NeverRelocates library → RoomForAlloc library alloc → Known library → RoomForRelocate library relocate → ⊥
+never-relocates library refuses room known relocates = refuses _ 2 _ (a-relocate library room known relocates)
+
+-- nor one that leaves the block where it is: it is known to have a new number
+pub relocate-stays : (library : Library) → RelocateStays library → RoomForAlloc library alloc → Known library → RoomForRelocate library relocate → ⊥
+relocate-stays library stays room known relocates =
+    let o = has-once library room (replicate 16 0) 2 refl (omega arith) in
+    let done = a-relocate library room known relocates in
+    known 16 _ (o .once) .relocate-moves _ 2 done (stays _ 2 _ done)
+
 -- ---- one that hands back words of any number
 
 -- view never answers the empty part
@@ -217,7 +276,7 @@ copiesNothing c a = record { answer = ours c a .answer; words = written (chunksO
 
 -- a block does not keep its words: of 16 words, block 10 holds a 5 and is moved to block 4
 pub copies-nothing : Keeps copiesNothing → ⊥
-unfolding startOn allocBy reallocOn arenaGate requestGate sound chunksOf walked walkFrom walk meet lowest joined copied written write header enter strike
+unfolding startOn allocBy regrantBy arenaGate requestGate sound chunksOf walked walkFrom walk meet lowest joined copied written write header enter strike
 copies-nothing keeps =
     let held : Run copiesNothing 16 _ = next (next (begun (replicate 16 0) refl refl) (call (alloc 2)) tt) (call (alloc 2)) tt in
     let stored : Run copiesNothing 16 _ = next held (store 10 0 5) ((record { block = 10; granted = 2 }, inl refl, refl, omega arith), omega arith) in

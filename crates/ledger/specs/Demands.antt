@@ -8,11 +8,11 @@ use lib.ListN.{length, getD, take, drop}
 use Rattle.layout.specs.Numbers.{controlWords, headerWords, leastSplit, lawful, greatestRequest, need}
 use Rattle.layout.specs.Reasons.{number}
 use Rattle.layout.specs.declared.Reason.{Reason}
-use Rattle.layout.specs.declared.Reason.the-variants.{Length, Damaged, NotABlock, NoRoom}
+use Rattle.layout.specs.declared.Reason.the-variants.{Length, Damaged, NotABlock, NoRoom, WouldMove}
 use Rattle.arena.specs.Answers.{Answer, success}
-use Rattle.ledger.specs.Events.{Call, start, alloc, free, realloc, size, view, report, Event, Library}
+use Rattle.ledger.specs.Events.{Call, start, alloc, free, resize, relocate, realloc, size, view, report, Event, Library}
 use Rattle.ledger.specs.Ledger.{Entry, Ledger, told, Done, Listed, Unlisted, begins, ends, heldWords}
-use Rattle.ledger.specs.Gaps.{gapFrom, gaps, EachShorter}
+use Rattle.ledger.specs.Gaps.{gaps, EachShorter, RoomShorter}
 use Rattle.ledger.specs.Runs.{State, Allowed, after, Run}
 use Rattle.ledger.specs.Holders.{wordAfter, numberAfter, Ended, StoredLast}
 
@@ -87,8 +87,19 @@ module _ (library : Library) where
   abbrev pub RoomForRealloc : (ℕ → ℕ → Call) → Type 0
   RoomForRealloc reallocs =
       (n : ℕ) (s : State) → Run library n s → (below above : Ledger) (e : Entry) → s .ledger ≡ below ++ e ∷ above → (w : ℕ) → LawfulRequest n w
-      → RefusedWhen NoRoom (EachShorter (need w) (gaps n (s .ledger)) × (headerWords + e .granted + gapFrom n (ends e) above < need w))
-      (library (reallocs (e .block) w) (s .words) .answer)
+      → RefusedWhen NoRoom (EachShorter (need w) (gaps n (s .ledger)) × RoomShorter (need w) n e above) (library (reallocs (e .block) w) (s .words) .answer)
+
+  -- item 1: a lawful resize of a ledger block would move it exactly when that block with its header, joined with the gap right above it, is too short
+  abbrev pub RoomForResize : (ℕ → ℕ → Call) → Type 0
+  RoomForResize resizes =
+      (n : ℕ) (s : State) → Run library n s → (below above : Ledger) (e : Entry) → s .ledger ≡ below ++ e ∷ above → (w : ℕ) → LawfulRequest n w
+      → RefusedWhen WouldMove (RoomShorter (need w) n e above) (library (resizes (e .block) w) (s .words) .answer)
+
+  -- "a move alone lacks room exactly when no gap holds the need"
+  abbrev pub RoomForRelocate : (ℕ → ℕ → Call) → Type 0
+  RoomForRelocate relocates =
+      (n : ℕ) (s : State) → Run library n s → (e : Entry) → Listed (s .ledger) e → (w : ℕ) → LawfulRequest n w
+      → RefusedWhen NoRoom (EachShorter (need w) (gaps n (s .ledger))) (library (relocates (e .block) w) (s .words) .answer)
 
   -- a call on a block is answered 3 exactly for a number that is not in the ledger
   abbrev pub NeedsBlock : (ℕ → Call) → List ℕ → Ledger → Type 0
@@ -106,6 +117,14 @@ module _ (library : Library) where
     pub alloc-grants : GrantsNeed alloc a
     pub free-known : NeedsBlock free a ledger
     pub free-listed : (e : Entry) → Listed ledger e → Done (library (free (e .block)) a .answer)
+    pub resize-known : (w : ℕ) → NeedsBlock (λ b. resize b w) a ledger
+    pub resize-grants : (b : ℕ) → GrantsNeed (resize b) a
+    pub resize-stays : (b w : ℕ) → Done (library (resize b w) a .answer) → told (library (resize b w) a .answer) .block ≡ b
+    pub resize-never-full : (b w : ℕ) → library (resize b w) a .answer .code ≢ number NoRoom
+    pub resize-alone : (c : Call) → library c a .answer .code ≡ number WouldMove → (b : ℕ) × (w : ℕ) × (c ≡ resize b w)
+    pub relocate-known : (w : ℕ) → NeedsBlock (λ b. relocate b w) a ledger
+    pub relocate-grants : (b : ℕ) → GrantsNeed (relocate b) a
+    pub relocate-moves : (b w : ℕ) → Done (library (relocate b w) a .answer) → told (library (relocate b w) a .answer) .block ≢ b
     pub realloc-known : (w : ℕ) → NeedsBlock (λ b. realloc b w) a ledger
     pub realloc-grants : (b : ℕ) → GrantsNeed (realloc b) a
     pub size-known : NeedsBlock size a ledger

@@ -3,13 +3,15 @@ use Prim.Native.Nat.{ℕ, _+_}
 use mathlib.Core.List.{List, []}
 use lib.ListN.{set}
 use Rattle.arena.specs.Answers.{Outcome, success}
-use Rattle.arena.specs.Calls.{startOn, allocOn, freeOn, reallocOn, sizeOn, viewOn, reportOn}
+use Rattle.arena.specs.Calls.{startOn, allocOn, freeOn, resizeOn, relocateOn, reallocOn, sizeOn, viewOn, reportOn}
 
 -- `w` is how many words are asked for, `b` a block's number
 pub data Call : Type 0 where
   start : Call
   alloc : (w : ℕ) → Call
   free : (b : ℕ) → Call
+  resize : (b w : ℕ) → Call
+  relocate : (b w : ℕ) → Call
   realloc : (b w : ℕ) → Call
   size : (b : ℕ) → Call
   view : (b : ℕ) → Call
@@ -29,6 +31,8 @@ abbrev pub ours : Library
 ours start a = startOn a
 ours (alloc w) a = allocOn a w
 ours (free b) a = freeOn a b
+ours (resize b w) a = resizeOn a b w
+ours (relocate b w) a = relocateOn a b w
 ours (realloc b w) a = reallocOn a b w
 ours (size b) a = sizeOn a b
 ours (view b) a = record { answer = success (viewOn a b); words = a }

@@ -8,7 +8,7 @@ use lib.ListN.{getD}
 use lib.Dec.{leb, eqb}
 use Rattle.layout.specs.Numbers.{headerWords}
 use Rattle.arena.specs.Answers.{Answer}
-use Rattle.ledger.specs.Events.{start, alloc, free, realloc, size, view, report, Event, call, store}
+use Rattle.ledger.specs.Events.{start, alloc, free, resize, relocate, realloc, size, view, report, Event, call, store}
 
 -- a block's number and its granted words
 pub record Entry : Type 0 where
@@ -43,6 +43,8 @@ abbrev pub effect : Event → Effect
 effect (call start) = empties
 effect (call (alloc w)) = grants
 effect (call (free b)) = frees b
+effect (call (resize b w)) = regrants b
+effect (call (relocate b w)) = regrants b
 effect (call (realloc b w)) = regrants b
 effect (call (size b)) = spares
 effect (call (view b)) = spares

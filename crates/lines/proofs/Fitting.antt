@@ -10,7 +10,7 @@ use Rattle.layout.specs.Chunks.{Chunk, free, live, total}
 use Rattle.layout.specs.Walk.{sound, chunksOf}
 use Rattle.layout.specs.Reasons.{number}
 use Rattle.layout.specs.declared.Reason.{Reason}
-use Rattle.layout.specs.declared.Reason.the-variants.{Length, Damaged, NotABlock, Zero, TooLarge, NoRoom, Frame}
+use Rattle.layout.specs.declared.Reason.the-variants.{Length, Damaged, NotABlock, Zero, TooLarge, NoRoom, Frame, WouldMove}
 use Rattle.layout.proofs.Bounds.{AllBelow}
 use Rattle.layout.proofs.Holds.{total-append}
 use Rattle.layout.proofs.Round.{sound-chunks}
@@ -21,7 +21,7 @@ use Rattle.arena.specs.Inside.Tallies as tallies
 use Rattle.arena.proofs.Moving.{cut-numbers}
 use Rattle.arena.proofs.Tallying.{counted, tallied-counts, tallied-small}
 use Rattle.arena.proofs.Cases.{Case, refuses, does, Starts, starts, start-case, Allots, allots, alloc-case, Frees, frees, free-case, Reports, reports, report-case}
-use Rattle.arena.proofs.Regranting.{Regrants, shrinks, grows, moves, realloc-case}
+use Rattle.arena.proofs.Regranting.{shrinks, grows, moves, Regrants, in-place, elsewhere, realloc-case}
 use Rattle.lines.specs.Digits.{twoDigitValues, fourDigitValues}
 
 -- ---- the code
@@ -34,6 +34,7 @@ number-small Zero = omega arith
 number-small TooLarge = omega arith
 number-small NoRoom = omega arith
 number-small Frame = omega arith
+number-small WouldMove = omega arith
 
 -- the code of a call's answer fits two digits
 pub code-below : {fields : ℕ} {a : List ℕ} {Refuses : Reason → Type 0} {Does : List ℕ → List ℕ → Type 0} {outcome : Outcome}
@@ -93,11 +94,11 @@ module _ (a : List ℕ) where
   realloc-fits b n = case-fits go (realloc-case a b n)
     where
       go : (values after : List ℕ) → Regrants a b n values after → Fits 2 values
-      go values after (shrinks e r pre s post is l) =
+      go values after (in-place (shrinks e r pre s post is l)) =
           granted-fits e pre (live s ∷ []) post s (need n) b (is .same) (omega arith) l (omega arith)
-      go values after (grows e r pre s t post is l m) =
+      go values after (in-place (grows e r pre s t post is l m)) =
           granted-fits e pre (live s ∷ free t ∷ []) post (s + t) (need n) b (is .same) (omega arith) m (omega arith)
-      go values after (moves e r pre s post is l before g behind gap block at-is ks same) =
+      go values after (elsewhere short (moves e r pre s post is before g behind gap block at-is ks same count fewer)) =
           granted-fits e before (free g ∷ []) behind g (need n) block (gap .same) (omega arith) (gap .enough) (omega arith)
 
   -- report answers four numbers, and all fit

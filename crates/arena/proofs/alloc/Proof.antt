@@ -83,7 +83,7 @@ unfolding allocBy
 returns-3 c =
     let d = c .before .before .before .before in
     let f = rw (d .need .ensures, d .before .wide2 .ensures) at (c .before .before .before .allot .ensures) in
-    rw (← arena-open (d .before .before .before .before .before .before .before), ← request-opens (d .before .before .before) .1, c .answer .ensures) (way-gives _ _ _ _ f)
+    rw (← arena-open (d .before .before .before .before .before .before .before), ← request-opens (d .before .before .before) .1, c .answer .ensures) (way-gives _ _ _ _ _ f)
 
 pub alloc-spec : {M : Type 1} → statement M
 alloc-spec =

@@ -12,10 +12,10 @@ enum-told : tie.Need-enum-told
 enum-told c = search needs
 
 returns : tie.Need-returns
-returns c = sym (ap grantedOf (c .before .way .given .1))
+returns c = sym (ap (grantedOf _) (c .before .way .given .1))
 
 returns-2 : tie.Need-returns-2
-returns-2 c = sym (ap grantedOf (c .enum-told .given .1))
+returns-2 c = sym (ap (grantedOf _) (c .enum-told .given .1))
 
 pub answer-spec : {M : Type 1} → statement M
 answer-spec = tie.close (tie.spec enum-known-way enum-told returns returns-2)

@@ -1,69 +1,34 @@
--- `realloc` meets its contract: a gate is shut, the search found no block, or `realloc_at` follows the three ways.
-use mathlib.Core.Path.{_≡_, refl, sym, ap, _∙_}
-use mathlib.Core.Bool.{true}
-use lib.ListN.{length}
-use Rattle.layout.specs.Numbers.{lawful}
-use Rattle.layout.specs.Walk.{chunksOf}
-use Rattle.layout.specs.Reasons.{arenaGate, requestGate}
-use Rattle.layout.specs.declared.Gate.the-variants.{Open}
-use Rattle.arena.specs.Spots.{held}
-use Rattle.arena.specs.Calls.{reallocOn}
-use Rattle.arena.specs.Inside.Places.{placeOf}
-use Rattle.arena.proofs.Gates.{gate-open, sound-lawful, request-small, request-open}
-use Rattle.arena.proofs.Standing.{found-nowhere}
-use Rattle.arena.proofs.Finding.{FoundBlock, found-block}
-use Rattle.arena.proofs.Following.{way-gives}
+-- `realloc` meets its contract: it answers what the resize did or, where that would have to move the block, what the move does; and these are the three ways.
+use mathlib.Core.List.{[], _∷_}
+use native.Mathlib.Omega.{arith}
 use borrow.Author.Needs.{needs}
+use types.Run.{miss}
+use Rattle.layout.specs.declared.Reason.the-variants.{WouldMove}
+use Rattle.layout.proofs.Reasons.{number-injective}
+use Rattle.arena.proofs.Reallocating.{resize-gives-realloc, relocate-gives-realloc}
 use Rattle.arena.proofs.realloc.Statement.{statement}
 use Rattle.arena.proofs.realloc.Tie as tie
 
--- the arena's gate is open
-arena-open : (c : tie.After-enum-told) → Open ≡ arenaGate (c .before .before .before .before .before .args .a .now)
-arena-open c = sym (c .enum-told .given .1) ∙ c .before .before .check-arena .ensures
+resize-requires : tie.Need-resize-requires
+resize-requires c κs = search needs
 
--- what the search answers
-asked : (c : tie.After-find) → let x = c .before .before .before .before .before .before .before .before .args in c .find .result ≡ placeOf (held (x .b) (chunksOf (x .a .now)))
-asked c = rw (c .before .wide .ensures) at (c .find .ensures)
+enum-known-resized : tie.Need-enum-known-resized
+enum-known-resized c = search needs
 
--- it found a chunk
-here : (c : tie.After-place) → let x = c .before .before .before .before .before .before .before .before .before .before .args in FoundBlock (x .a .now) (x .b) (c .place .given .0 .0) (c .place .given .0 .1 .0)
-here c = found-block _ _ _ _ (gate-open _ (arena-open (c .before .before .before .before .before))) (sym (c .place .given .1) ∙ asked (c .before .before))
+enum-told : tie.Need-enum-told
+enum-told c = search needs
 
--- what the request's gate is
-requested : (c : tie.After-check-request) → let x = c .before .before .before .before .before .before .before .before .before .before .before .before .before .args in c .check-request .result ≡ requestGate (length (x .a .now)) (x .n)
-requested c = c .check-request .ensures ∙ ap (requestGate _) (c .before .wide2 .ensures)
-
--- it is open too
-request-opens : (c : tie.After-enum-told3)
-    → let x = c .before .before .before .before .before .before .before .before .before .before .before .before .before .before .before .args in (lawful (length (x .a .now)) ≡ true) × (Open ≡ requestGate (length (x .a .now)) (x .n))
-request-opens c = (sound-lawful _ (gate-open _ (arena-open (c .before .before .before .before .before .before .before .before .before .before))), sym (c .enum-told3 .given .1) ∙ requested (c .before .before))
-
-check-arena-requires : tie.Need-check-arena-requires
-check-arena-requires c κs = search needs
-
-enum-known-arena : tie.Need-enum-known-arena
-enum-known-arena c = search needs
+relocate-requires : tie.Need-relocate-requires
+relocate-requires c κs = search needs
 
 same-length : tie.Need-same-length
 same-length c = search needs
 
 returns : tie.Need-returns
-unfolding reallocOn
 returns c =
-    rw (← (sym (c .before .arena .given .1) ∙ c .before .before .before .check-arena .ensures)) (record { answers = refl; leaves = refl })
-
-enum-told : tie.Need-enum-told
-enum-told c = search needs
-
-wide-requires : tie.Need-wide-requires
-wide-requires c κs = search needs
-
-find-requires : tie.Need-find-requires
-find-requires c κs =
-    gate-open _ (arena-open (c .before .before))
-
-enum-known-place : tie.Need-enum-known-place
-enum-known-place c = search needs
+    let e = c .before .before .before .before in
+    let f = e .before .before .before in
+    relocate-gives-realloc _ _ _ _ _ _ (rw (f .resized .given .1, e .enum-told .given .1) at (f .before .before .before .before .resize .ensures)) (c .before .before .relocate .ensures)
 
 enum-told-2 : tie.Need-enum-told-2
 enum-told-2 c = search needs
@@ -72,81 +37,30 @@ same-length-2 : tie.Need-same-length-2
 same-length-2 c = search needs
 
 returns-2 : tie.Need-returns-2
-unfolding reallocOn
 returns-2 c =
-    rw (← arena-open (c .before .before .before .before .before), found-nowhere _ (sym (c .enum-told2 .given .1) ∙ asked (c .before .before))) (record { answers = refl; leaves = refl })
-
-wide-requires-2 : tie.Need-wide-requires-2
-wide-requires-2 c κs = search needs
-
-check-request-requires : tie.Need-check-request-requires
-check-request-requires c κs =
-    sound-lawful _ (gate-open _ (arena-open (c .before .before .before .before .before .before .before)))
-
-enum-known-asked : tie.Need-enum-known-asked
-enum-known-asked c = search needs
+    let e = c .before .before .resized .given .1 in
+    resize-gives-realloc _ _ _ _ _ (λ is. let other = rw (number-injective (c .before .before .resized .given .0 .0) WouldMove is) at (c .match2 .keys2) in miss (0 ∷ 1 ∷ 2 ∷ 3 ∷ 4 ∷ 5 ∷ 6 ∷ []) 7 tt other) (rw e at (c .before .before .before .before .before .before .resize .ensures))
 
 same-length-3 : tie.Need-same-length-3
 same-length-3 c = search needs
 
 returns-3 : tie.Need-returns-3
-unfolding reallocOn
 returns-3 c =
-    rw (← arena-open (c .before .before .before .before .before .before .before .before .before .before .before), here (c .before .before .before .before .before .before) .spot, ← (sym (c .before .asked .given .1) ∙ requested (c .before .before .before))) (record { answers = refl; leaves = refl })
-
-enum-told-3 : tie.Need-enum-told-3
-enum-told-3 c = search needs
-
-wide-requires-3 : tie.Need-wide-requires-3
-wide-requires-3 c κs = search needs
-
-need-requires : tie.Need-need-requires
-need-requires c κs =
-    let r = request-opens (c .before .before) in rw (c .wide3 .ensures) (request-small _ _ (r .0) (r .1))
-
-realloc-at-requires : tie.Need-realloc-at-requires
-realloc-at-requires c κs =
-    let r = request-opens (c .before .before .before) in
-    (here (c .before .before .before .before .before .before .before .before) .block, rw (c .need .ensures, c .before .wide3 .ensures) (request-open _ _ (r .0) (r .1)))
-
-answer-requires : tie.Need-answer-requires
-answer-requires c κs = search needs
-
-same-length-4 : tie.Need-same-length-4
-same-length-4 c = search needs
-
-returns-4 : tie.Need-returns-4
-unfolding reallocOn
-returns-4 c =
-    let d = c .before .before .before .before in
-    let g = here (d .before .before .before .before .before .before .before .before) in
-    let f = rw (d .need .ensures, d .before .wide3 .ensures, g .number-is) at (c .before .before .before .realloc-at .ensures _ _ _ (g .block .stands)) in
-    rw (← arena-open (d .before .before .before .before .before .before .before .before .before .before .before .before .before), g .spot, ← request-opens (d .before .before .before) .1, c .answer .ensures) (way-gives _ _ _ _ f)
+    let e = c .enum-told2 .given .1 in
+    resize-gives-realloc _ _ _ _ _ (rw e (λ is. omega arith)) (c .before .before .before .before .resize .ensures)
 
 pub realloc-spec : {M : Type 1} → statement M
 realloc-spec =
     tie.close
     (tie.spec
-    check-arena-requires
-    enum-known-arena
+    resize-requires
+    enum-known-resized
+    enum-told
+    relocate-requires
     same-length
     returns
-    enum-told
-    wide-requires
-    find-requires
-    enum-known-place
     enum-told-2
     same-length-2
     returns-2
-    wide-requires-2
-    check-request-requires
-    enum-known-asked
     same-length-3
-    returns-3
-    enum-told-3
-    wide-requires-3
-    need-requires
-    realloc-at-requires
-    answer-requires
-    same-length-4
-    returns-4)
+    returns-3)

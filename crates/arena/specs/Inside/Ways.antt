@@ -5,10 +5,10 @@ use mathlib.Core.List.{List, _++_}
 use Rattle.layout.specs.Numbers.{firstChunk, headerWords}
 use Rattle.layout.specs.Chunks.{Chunk, free, live, total, written}
 use Rattle.layout.specs.Walk.{chunksOf}
-use Rattle.layout.specs.declared.Reason.the-variants.{NoRoom}
+use Rattle.layout.specs.declared.Reason.{Reason}
 use Rattle.arena.specs.Spots.{at, firstFit}
 use Rattle.arena.specs.Rules.{Way as RuleWay}
-use Rattle.arena.specs.Rules.{shut, grants, orElse, taken, cut, grantFrom, shrink, grow, move, regranted}
+use Rattle.arena.specs.Rules.{shut, grants, taken, cut, grantFrom, Regrant}
 use Rattle.arena.specs.declared.Granted.{Granted}
 use Rattle.arena.specs.declared.Granted.the-variants.{Block, Refused}
 use Rattle.arena.specs.declared.grant.Way.{Way}
@@ -40,24 +40,20 @@ pub record Follows (way : RuleWay) (a : List ℕ) (answer : Way) (after : List �
   pub answers : answer ≡ wayAnswer way
   pub leaves : after ≡ wayWords way a
 
+-- the way that a rule gives the live chunk of `s` words between `pre` and `post`
+abbrev pub wayBy : Regrant → ℕ → ℕ → List ℕ → List Chunk → ℕ → List Chunk → RuleWay
+wayBy rule b need a pre s post = rule b need (at pre (live s) post) (grantFrom need (firstFit need (chunksOf a))) a
+
 -- for the live chunk that stands at `chunk`, the way that a rule gives it was followed
-abbrev pub FollowsAt : List ℕ → ℕ → ℕ → (List Chunk → ℕ → List Chunk → RuleWay) → Way → List ℕ → Type 0
-FollowsAt a link chunk rule answer after =
-    (pre : List Chunk) (s : ℕ) (post : List Chunk) → Stands a pre (live s) post link chunk → Follows (rule pre s post) a answer after
-
--- ways 1 and 2 of realloc, way 3, and all three in their order
-abbrev pub inPlace : ℕ → ℕ → List ℕ → List Chunk → ℕ → List Chunk → RuleWay
-inPlace b need a pre s post = orElse (shrink b need (at pre (live s) post) a) (grow b need (at pre (live s) post) a)
-
-abbrev pub byMove : ℕ → ℕ → List ℕ → List Chunk → ℕ → List Chunk → RuleWay
-byMove b need a pre s post = move b (s - headerWords) (grantFrom need (firstFit need (chunksOf a))) a
-
-abbrev pub inOrder : ℕ → ℕ → List ℕ → List Chunk → ℕ → List Chunk → RuleWay
-inOrder b need a pre s post = regranted b need (at pre (live s) post) (grantFrom need (firstFit need (chunksOf a))) a
+abbrev pub FollowsAt : Regrant → List ℕ → ℕ → ℕ → ℕ → Way → List ℕ → Type 0
+FollowsAt rule a link chunk need answer after =
+    (pre : List Chunk) (s : ℕ) (post : List Chunk) → Stands a pre (live s) post link chunk
+    → Follows (wayBy rule (chunk + headerWords) need a pre s post) a answer after
 
 abbrev pub grantsOf : Piece → Way
 grantsOf piece = Grants (piece .chunk + headerWords) (piece .words - headerWords)
 
-abbrev pub grantedOf : Way → Granted
-grantedOf (Grants block granted) = Block block granted
-grantedOf Shut = Refused NoRoom
+-- a way as the answer of a call that grants; `why` is what the call says where it is shut
+abbrev pub grantedOf : Reason → Way → Granted
+grantedOf why (Grants block granted) = Block block granted
+grantedOf why Shut = Refused why

@@ -42,6 +42,18 @@ size-requires c κs = search needs
 sized-numbers-requires : tie.Need-sized-numbers-requires
 sized-numbers-requires c κs = search needs
 
+resize-requires : tie.Need-resize-requires
+resize-requires c κs = search needs
+
+granted-numbers-requires-3 : tie.Need-granted-numbers-requires-3
+granted-numbers-requires-3 c κs = search needs
+
+relocate-requires : tie.Need-relocate-requires
+relocate-requires c κs = search needs
+
+granted-numbers-requires-4 : tie.Need-granted-numbers-requires-4
+granted-numbers-requires-4 c κs = search needs
+
 refused-requires : tie.Need-refused-requires
 refused-requires c κs = search needs
 
@@ -99,10 +111,29 @@ returns-6 c =
     let d = c .before in
     rw (d .before .before .match .keys6) (settled (d .size .ensures) (c .sized-numbers .ensures))
 
+same-length-7 : tie.Need-same-length-7
+same-length-7 c = search needs
+
 returns-7 : tie.Need-returns-7
+unfolding outcomeOf
 returns-7 c =
+    let d = c .before .before .before in
+    rw (d .before .before .match .keys7) (settled (d .resize .ensures) (c .granted-numbers3 .ensures))
+
+same-length-8 : tie.Need-same-length-8
+same-length-8 c = search needs
+
+returns-8 : tie.Need-returns-8
+unfolding outcomeOf
+returns-8 c =
+    let d = c .before .before .before in
+    rw (d .before .before .match .keys8) (settled (d .relocate .ensures) (c .granted-numbers4 .ensures))
+
+returns-9 : tie.Need-returns-9
+returns-9 c =
     let r = c .before .match .rest in
-    rw (unknown-call _ _ _ _ (r .0 .0 .0 .0 .0 .1) (r .0 .0 .0 .0 .1) (r .0 .0 .0 .1) (r .0 .0 .1) (r .0 .1) (r .1)) (record { answers = c .refused .ensures; leaves = refl })
+    let s = r .0 .0 .0 .0 in
+    rw (unknown-call _ _ _ _ (s .0 .0 .0 .1) (s .0 .0 .1) (s .0 .1) (s .1) (r .0 .0 .0 .1) (r .0 .0 .1) (r .0 .1) (r .1)) (record { answers = c .refused .ensures; leaves = refl })
 
 pub answer-spec : {M : Type 1} → statement M
 answer-spec =
@@ -120,6 +151,10 @@ answer-spec =
     reported-numbers-requires
     size-requires
     sized-numbers-requires
+    resize-requires
+    granted-numbers-requires-3
+    relocate-requires
+    granted-numbers-requires-4
     refused-requires
     same-length
     returns
@@ -133,4 +168,8 @@ answer-spec =
     returns-5
     same-length-6
     returns-6
-    returns-7)
+    same-length-7
+    returns-7
+    same-length-8
+    returns-8
+    returns-9)

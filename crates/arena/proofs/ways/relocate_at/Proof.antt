@@ -1,11 +1,12 @@
--- `relocate` meets its contract: the search finds no room and nothing is done, or the need is taken, the words are copied and the old block is freed where it still stands.
+-- `relocate_at` meets its contract: the search finds no room and nothing is done, or the need is taken, the words are copied and the old block is freed where it still stands.
 use mathlib.Core.Path.{_≡_, refl, sym, ap, _∙_}
 use mathlib.Core.List.{List}
-use Prim.Native.Nat.{ℕ, _+_, _-_, _≤_, _<_}
+use Prim.Native.Nat.{ℕ, _+_, _-_, _≤_, min}
 use native.Mathlib.Omega.{arith}
 use lib.ListN.{length}
 use Rattle.layout.specs.Numbers.{headerWords, greatestLength}
 use Rattle.layout.specs.Chunks.{Chunk, live}
+use Rattle.arena.specs.Rules.{taken}
 use Rattle.arena.specs.Inside.Places.{Stands}
 use Rattle.arena.specs.Inside.Ways.{Took}
 use Rattle.arena.specs.Inside.Moves.{Beside}
@@ -14,8 +15,8 @@ use Rattle.arena.proofs.Finding.{FoundGap, found-gap}
 use Rattle.arena.proofs.Allotting.{took-small}
 use Rattle.arena.proofs.Moving.{beyond, took-beside, took-stands, took-moved}
 use borrow.Author.Needs.{needs}
-use Rattle.arena.proofs.ways.relocate.Statement.{statement}
-use Rattle.arena.proofs.ways.relocate.Tie as tie
+use Rattle.arena.proofs.ways.relocate_at.Statement.{statement}
+use Rattle.arena.proofs.ways.relocate_at.Tie as tie
 
 -- the block that stands there, in numbers
 stood : (c : tie.Start) → let p = c .pre .0 in Reads (c .args .a .now) (p .pre) (live (p .s)) (p .post) (c .args .link) (c .args .chunk)
@@ -28,10 +29,10 @@ here c =
     let x = c .before .before .before .before .before .pre in
     found-gap _ _ _ _ (x .0 .stands .is-sound) (x .1) (sym (c .place .given .1) ∙ c .before .before .first-fit .ensures)
 
--- the words that are copied are all of the block
-counted : (c : tie.After-block-words) → let x = c .before .before .before .before .before .before .before .before .before in
+-- the old block's words
+old-words : (c : tie.After-block-words) → let x = c .before .before .before .before .before .before .before .before .before in
     (pre : List Chunk) (s : ℕ) (post : List Chunk) → Stands (x .args .a .now) pre (live s) post (x .args .link) (x .args .chunk) → c .block-words .result ≡ s - headerWords
-counted c pre s post st =
+old-words c pre s post st =
     c .block-words .ensures ∙ ap (λ (w : ℕ). w - headerWords) (c .before .wide .ensures ∙ reads _ _ _ _ _ _ st .size-is)
 
 -- the chunk that was taken
@@ -47,32 +48,42 @@ took c = c .take .ensures _ _ _ (gap c .gap .stands)
 small : (c : tie.After-take) → (c .take .result .chunk ≤ greatestLength) × (c .take .result .words ≤ greatestLength)
 small c = took-small (gap c .gap) (took c)
 
-longer : (c : tie.Start) (pre : List Chunk) (s : ℕ) (post : List Chunk) → Stands (c .args .a .now) pre (live s) post (c .args .link) (c .args .chunk) → s < c .args .need
-longer c pre s post st = let r = reads _ _ _ _ _ _ st in omega (arith, c .pre .2)
+-- as many words are copied as the shorter of the two blocks has
+counted : (c : tie.After-smaller) → let d = c .before .before .before .before in let x = d .before .before .before .before .before .before .before .before .before .before .before in let g = gap d .gap .s in
+    (pre : List Chunk) (s : ℕ) (post : List Chunk) → Stands (x .args .a .now) pre (live s) post (x .args .link) (x .args .chunk)
+    → c .smaller .result ≡ min (s - headerWords) (taken (x .args .need) g - headerWords)
+counted c pre s post st =
+    let d = c .before .before .before .before in
+    omega (arith, c .smaller .ensures, old-words (d .before .before) pre s post st, c .before .block-words2 .ensures, took d .has)
 
 -- the copy is in the arena, and apart from the block
-beside : (c : tie.After-take) → let x = c .before .before .before .before .before .before .before .before .before .before .before in
+beside : (c : tie.After-smaller) → let d = c .before .before .before .before in let x = d .before .before .before .before .before .before .before .before .before .before .before in
     (pre : List Chunk) (s : ℕ) (post : List Chunk) → Stands (x .args .a .now) pre (live s) post (x .args .link) (x .args .chunk)
-    → Beside (length (c .take .last .0)) (x .args .chunk + headerWords) (c .take .result .chunk + headerWords) (c .before .before .block-words .result)
+    → Beside (length (d .take .last .0)) (x .args .chunk + headerWords) (d .take .result .chunk + headerWords) (c .smaller .result)
 beside c pre s post st =
-    let x = c .before .before .before .before .before .before .before .before .before .before .before in
-    let f = gap c .gap in
-    took-beside _ _ _ _ _ _ st _ _ _ _ _ (f .stands) _ (x .pre .1) (f .enough) (longer x pre s post st) _ _ (took c) _ (counted (c .before .before) pre s post st)
+    let d = c .before .before .before .before in
+    let x = d .before .before .before .before .before .before .before .before .before .before .before in
+    let f = gap d .gap in
+    let n = counted c pre s post st in
+    took-beside _ _ _ _ _ _ st _ _ _ _ _ (f .stands) _ (x .pre .1) (f .enough) _ (omega arith) (omega arith) _ _ (took d)
 
 -- the block is where it was, with the word that names the next free chunk now
 standing : (c : tie.After-link-after) →
-    let d = c .before .before .before .before .before .before .before .before in
+    let m = c .before .before .before .before .before .before in
+    let d = m .before .before .before .before in
     let x = d .before .before .before .before .before .before .before .before .before .before .before in
     let f = gap d .gap in
     (pre : List Chunk) (s : ℕ) (post : List Chunk) (st : Stands (x .args .a .now) pre (live s) post (x .args .link) (x .args .chunk))
     → let b = beyond _ _ _ _ _ _ st _ _ _ _ _ (f .stands) (x .args .need) (x .pre .1) (f .enough) in
     Stands (c .before .before .before .before .copy .last .0) (b .pre) (live s) (b .post) (c .link-after .result) (x .args .chunk)
 standing c pre s post st =
-    let d = c .before .before .before .before .before .before .before .before in
+    let m = c .before .before .before .before .before .before in
+    let d = m .before .before .before .before in
     let x = d .before .before .before .before .before .before .before .before .before .before .before in
     let f = gap d .gap in
+    let n = counted m pre s post st in
     rw (c .link-after .ensures)
-    (took-stands _ _ _ _ _ _ st _ _ _ _ _ (f .stands) _ (x .pre .1) (f .enough) (longer x pre s post st) _ _ (took d) _ (counted (d .before .before) pre s post st) _ (c .before .before .before .before .copy .ensures))
+    (took-stands _ _ _ _ _ _ st _ _ _ _ _ (f .stands) _ (x .pre .1) (f .enough) _ (omega arith) (omega arith) _ _ (took d) _ (c .before .before .before .before .copy .ensures))
 
 first-fit-requires : tie.Need-first-fit-requires
 first-fit-requires c κs = search needs
@@ -108,29 +119,35 @@ take-requires : tie.Need-take-requires
 take-requires c κs =
     here (c .before .before .before .before .before) .gap
 
+block-words-requires-2 : tie.Need-block-words-requires-2
+block-words-requires-2 c κs = search needs
+
+smaller-requires : tie.Need-smaller-requires
+smaller-requires c κs = search needs
+
 add-copy : tie.Need-add-copy
 add-copy c =
-    let r = stood (c .before .before .before .before .before .before .before .before .before .before .before .before .before .before) in omega arith
+    let r = stood (c .before .before .before .before .before .before .before .before .before .before .before .before .before .before .before .before) in omega arith
 
 add-copy-2 : tie.Need-add-copy-2
 add-copy-2 c =
-    let p = small (c .before .before .before) in omega arith
+    let p = small (c .before .before .before .before .before) in omega arith
 
 copy-requires : tie.Need-copy-requires
 copy-requires c κs =
-    let d = c .before .before .before in beside d _ _ _ (d .before .before .before .before .before .before .before .before .before .before .before .pre .0 .stands)
+    let m = c .before in beside m _ _ _ (m .before .before .before .before .before .before .before .before .before .before .before .before .before .before .before .pre .0 .stands)
 
 link-after-requires : tie.Need-link-after-requires
 link-after-requires c κs =
-    let r = reads _ _ _ _ _ _ (gap (c .before .before .before .before .before .before .before) .gap .stands) in omega arith
+    let r = reads _ _ _ _ _ _ (gap (c .before .before .before .before .before .before .before .before .before) .gap .stands) in omega arith
 
 release-requires : tie.Need-release-requires
 release-requires c κs =
-    let d = c .before .before .before .before .before .before .before .before in record { pre = _; s = _; post = _; stands = standing c _ _ _ (d .before .before .before .before .before .before .before .before .before .before .before .pre .0 .stands) }
+    let m = c .before .before .before .before .before .before in record { pre = _; s = _; post = _; stands = standing c _ _ _ (m .before .before .before .before .before .before .before .before .before .before .before .before .before .before .before .pre .0 .stands) }
 
 grants-requires : tie.Need-grants-requires
 grants-requires c κs =
-    small (c .before .before .before .before .before .before .before .before .before .before .before)
+    small (c .before .before .before .before .before .before .before .before .before .before .before .before .before)
 
 same-length-2 : tie.Need-same-length-2
 same-length-2 c = search needs
@@ -139,14 +156,16 @@ returns-2 : tie.Need-returns-2
 returns-2 c =
     λ pre s post st.
     let l = c .before .before .before .before in
-    let d = c .before .before .before .before .before .before .before .before .before .before .before .before in
+    let m = l .before .before .before .before .before .before in
+    let d = m .before .before .before .before in
     let x = d .before .before .before .before .before .before .before .before .before .before .before in
     let f = gap d .gap in
+    let n = counted m pre s post st in
     rw (c .grants .ensures)
-    (took-moved _ _ _ _ _ _ st _ _ _ _ _ (f .stands) _ (x .pre .1) (f .enough) (longer x pre s post st) _ _ (took d) _ (counted (d .before .before) pre s post st) (gap d .spot) _ (l .before .before .before .before .copy .ensures) _ (c .before .before .before .release .ensures _ _ _ (standing l pre s post st)))
+    (took-moved _ _ _ _ _ _ st _ _ _ _ _ (f .stands) _ (x .pre .1) (f .enough) _ (omega arith) (omega arith) _ _ (took d) (gap d .spot) n _ (l .before .before .before .before .copy .ensures) _ (c .before .before .before .release .ensures _ _ _ (standing l pre s post st)))
 
-pub relocate-spec : {M : Type 1} → statement M
-relocate-spec =
+pub relocate-at-spec : {M : Type 1} → statement M
+relocate-at-spec =
     tie.close
     (tie.spec
     first-fit-requires
@@ -159,6 +178,8 @@ relocate-spec =
     wide-requires
     block-words-requires
     take-requires
+    block-words-requires-2
+    smaller-requires
     add-copy
     add-copy-2
     copy-requires

@@ -1,4 +1,4 @@
--- `resize` meets its contract: at each return the stores are those of way 1 or way 2, by the laws of a block that stays where it is.
+-- `resize_at` meets its contract: at each return the stores are those of way 1 or way 2, by the laws of a block that stays where it is.
 use mathlib.Core.Path.{_≡_, refl, ap, _∙_}
 use mathlib.Core.List.{List}
 use Prim.Native.Nat.{ℕ, _+_, _-_, _≤_, _<_}
@@ -13,8 +13,8 @@ use Rattle.arena.proofs.Room.{bounds}
 use Rattle.arena.proofs.Following.{follows-as}
 use Rattle.arena.proofs.Staying.{keeps, shrinks, too-short, grows-whole, grows-part}
 use borrow.Author.Needs.{needs}
-use Rattle.arena.proofs.ways.resize.Statement.{statement}
-use Rattle.arena.proofs.ways.resize.Tie as tie
+use Rattle.arena.proofs.ways.resize_at.Statement.{statement}
+use Rattle.arena.proofs.ways.resize_at.Tie as tie
 
 -- the chunk that stands there, in numbers
 stood : (c : tie.Start) → let p = c .pre .0 in Reads (c .args .a .now) (p .pre) (live (p .s)) (p .post) (c .args .link) (c .args .chunk)
@@ -116,8 +116,8 @@ returns-5 c = λ pre s post st.
     let e = sized d pre s post st in
     follows-as (c .grants4 .ensures) (c .before .before .before .split-off2 .ensures) (grows-part _ pre s post _ _ st (d .room-at .result) (d .room-at .ensures pre s post st) _ (d .before .before .before .before .before .pre .1) (omega (arith, c .before .before .before .before .before .before .before .if1 .left)) (c .before .before .before .before .before .before .if3 .left) (c .before .before .before .before .before .if4 .left))
 
-pub resize-spec : {M : Type 1} → statement M
-resize-spec =
+pub resize-at-spec : {M : Type 1} → statement M
+resize-at-spec =
     tie.close
     (tie.spec
     mul-wide

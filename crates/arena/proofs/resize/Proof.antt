@@ -1,0 +1,51 @@
+-- `resize` meets its contract: its target refuses it, or `resize_at` follows its rule at the block.
+use mathlib.Core.Path.{sym, _∙_}
+use borrow.Author.Needs.{needs}
+use Rattle.arena.proofs.Targeting.{target-refused, Aimed, target-aimed}
+use Rattle.arena.proofs.resize.Statement.{statement}
+use Rattle.arena.proofs.resize.Tie as tie
+
+-- the block and the need that it is about
+aimed : (c : tie.After-target) → let x = c .before .before .before .before .before .args in let p = c .target .given .0 in Aimed (x .a .now) (x .b) (x .n) (p .0) (p .1 .0) (p .1 .1 .0)
+aimed c = target-aimed _ _ _ _ _ _ (sym (c .target .given .1) ∙ c .before .before .target-of .ensures)
+
+target-of-requires : tie.Need-target-of-requires
+target-of-requires c κs = search needs
+
+enum-known-target : tie.Need-enum-known-target
+enum-known-target c = search needs
+
+resize-at-requires : tie.Need-resize-at-requires
+resize-at-requires c κs = let t = aimed (c .before .before) in (t .stands, t .needed)
+
+answer-requires : tie.Need-answer-requires
+answer-requires c κs = search needs
+
+enum-known-target-2 : tie.Need-enum-known-target-2
+enum-known-target-2 c = search needs
+
+same-length : tie.Need-same-length
+same-length c = search needs
+
+returns : tie.Need-returns
+returns c = rw (c .answer .ensures) (aimed (c .before .before .before .before .before .before) .gives _ _ _ _ (c .before .before .before .resize-at .ensures))
+
+same-length-2 : tie.Need-same-length-2
+same-length-2 c = search needs
+
+returns-2 : tie.Need-returns-2
+returns-2 c = target-refused _ _ _ _ (sym (c .before .target2 .given .1) ∙ c .before .before .before .target-of .ensures) _ _
+
+pub resize-spec : {M : Type 1} → statement M
+resize-spec =
+    tie.close
+    (tie.spec
+    target-of-requires
+    enum-known-target
+    resize-at-requires
+    answer-requires
+    enum-known-target-2
+    same-length
+    returns
+    same-length-2
+    returns-2)

@@ -1,0 +1,169 @@
+"""Holds the program `cases` and the model to rows of resize and of the move, worked out by hand with all words."""
+
+import driver
+import model
+from cases import REALLOC, RELOCATE, RESIZE, Case
+from comparing import run_rows
+
+
+def words(text):
+    """The words of an arena as they are written here: a bar before each chunk, `live` for the mark of a live one."""
+    return [model.LIVE_MARK if word == "live" else int(word) for word in text.replace("|", " ").split()]
+
+
+def done(call, block, asked, before, fields, after):
+    """A case that is done, with the block and the granted words that are answered, and the words that it leaves."""
+    return Case(call, block, asked, words(before)), model.Answer(0, fields, [], words(after))
+
+
+def refused(call, block, asked, before, code):
+    """A case that is refused: its numbers are 0, and every word stays."""
+    return Case(call, block, asked, words(before)), model.Answer(code, (0, 0), [], words(before))
+
+
+def live_neighbour_rows():
+    """A resize that would move leaves every word, and realloc moves: a live chunk or the end comes after the block."""
+    before = "20 2 | 10 0 1004 1005 1006 1007 1008 1009 1010 1011 | 4 live 1014 1015 | 4 live 1018 1019"
+    whole = "20 12 | 10 live 1014 1015 1006 1007 1008 1009 1010 1011 | 4 0 1014 1015 | 4 live 1018 1019"
+    split = "20 2 | 4 16 1004 1005 | 6 live 1018 1019 1010 1011 | 4 live 1014 1015 | 4 0 1018 1019"
+    yield refused(RESIZE, 14, 5, before, 8)
+    yield done(RELOCATE, 14, 5, before, (4, 8), whole)
+    yield done(REALLOC, 14, 5, before, (4, 8), whole)
+    yield refused(RESIZE, 18, 3, before, 8)
+    yield done(RELOCATE, 18, 3, before, (8, 4), split)
+    yield done(REALLOC, 18, 3, before, (8, 4), split)
+
+
+def short_neighbour_rows():
+    """A free chunk after the block is enough for 6 words and two short for 7, and no gap holds those."""
+    before = "20 2 | 4 10 1004 1005 | 4 live 1008 1009 | 4 0 1012 1013 | 6 live 1016 1017 1018 1019"
+    grown = "20 2 | 4 0 1004 1005 | 8 live 1008 1009 4 0 1012 1013 | 6 live 1016 1017 1018 1019"
+    yield refused(RESIZE, 8, 7, before, 8)
+    yield refused(RELOCATE, 8, 7, before, 6)
+    yield refused(REALLOC, 8, 7, before, 6)
+    yield done(RESIZE, 8, 6, before, (8, 6), grown)
+    yield refused(RELOCATE, 8, 6, before, 6)
+    yield done(REALLOC, 8, 6, before, (8, 6), grown)
+
+
+def grow_rows():
+    """A block grows by part of the free chunk after it, by all of it, or by all of it with two words over."""
+    before = "18 12 | 10 live 1004 1005 1006 1007 1008 1009 1010 1011 | 6 0 1014 1015 1016 1017"
+    part = "18 14 | 12 live 1004 1005 1006 1007 1008 1009 1010 1011 6 0 | 4 0 1016 1017"
+    full = "18 0 | 16 live 1004 1005 1006 1007 1008 1009 1010 1011 6 0 1014 1015 1016 1017"
+    yield done(RESIZE, 4, 9, before, (4, 10), part)
+    yield done(RESIZE, 4, 10, before, (4, 10), part)
+    yield done(RESIZE, 4, 11, before, (4, 14), full)
+    yield done(RESIZE, 4, 14, before, (4, 14), full)
+
+
+def cut_rows():
+    """A tail of four is cut off, one of two or none is not; before a free chunk the tail joins it."""
+    before = "18 0 | 12 live 1004 1005 1006 1007 1008 1009 1010 1011 1012 1013 | 4 live 1016 1017"
+    cut = "18 10 | 8 live 1004 1005 1006 1007 1008 1009 | 4 0 1012 1013 | 4 live 1016 1017"
+    yield done(RESIZE, 4, 5, before, (4, 6), cut)
+    yield done(RESIZE, 4, 7, before, (4, 10), before)
+    yield done(RESIZE, 4, 10, before, (4, 10), before)
+    beside_free = "18 12 | 10 live 1004 1005 1006 1007 1008 1009 1010 1011 | 6 0 1014 1015 1016 1017"
+    joined = "18 6 | 4 live 1004 1005 | 12 0 1008 1009 1010 1011 6 0 1014 1015 1016 1017"
+    yield done(RESIZE, 4, 2, beside_free, (4, 2), joined)
+
+
+def shorter_move_rows():
+    """A move to a shorter block copies that many words: the size after them, another's or the old one's, stays."""
+    before = "22 2 | 8 0 1004 1005 1006 1007 1008 1009 | 4 live 1012 1013 | 8 live 1016 1017 1018 1019 1020 1021"
+    after = "22 2 | 4 14 1004 1005 | 4 live 1016 1017 | 4 live 1012 1013 | 8 0 1016 1017 1018 1019 1020 1021"
+    yield done(RELOCATE, 16, 2, before, (8, 2), after)
+    yield done(RELOCATE, 16, 1, before, (8, 2), after)
+    below_old = ("24 2 | 10 0 1004 1005 1006 1007 1008 1009 1010 1011 | 8 live 1014 1015 1016 1017 1018 1019"
+                 " | 4 live 1022 1023")
+    after_old = ("24 2 | 4 12 1004 1005 | 6 live 1014 1015 1016 1017 | 8 0 1014 1015 1016 1017 1018 1019"
+                 " | 4 live 1022 1023")
+    yield done(RELOCATE, 14, 4, below_old, (8, 4), after_old)
+
+
+def equal_move_rows():
+    """A move to a block as long copies all words, however few were asked for."""
+    before = "22 2 | 8 0 1004 1005 1006 1007 1008 1009 | 4 live 1012 1013 | 8 live 1016 1017 1018 1019 1020 1021"
+    after = "22 14 | 8 live 1016 1017 1018 1019 1020 1021 | 4 live 1012 1013 | 8 0 1016 1017 1018 1019 1020 1021"
+    yield done(RELOCATE, 16, 3, before, (4, 6), after)
+    yield done(RELOCATE, 16, 6, before, (4, 6), after)
+
+
+def gap_above_rows():
+    """A move takes the top of the free chunk after its block, or all of it, where a resize would grow into that."""
+    before = ("22 6 | 4 live 1004 1005 | 12 0 1008 1009 1010 1011 1012 1013 1014 1015 1016 1017"
+              " | 4 live 1020 1021")
+    grown = ("22 8 | 6 live 1004 1005 12 0 | 10 0 1010 1011 1012 1013 1014 1015 1016 1017"
+             " | 4 live 1020 1021")
+    top = ("22 2 | 10 0 1004 1005 6 0 1008 1009 1010 1011 | 6 live 1004 1005 1016 1017"
+           " | 4 live 1020 1021")
+    whole = ("22 2 | 4 0 1004 1005 | 12 live 1004 1005 1010 1011 1012 1013 1014 1015 1016 1017"
+             " | 4 live 1020 1021")
+    yield done(RESIZE, 4, 4, before, (4, 4), grown)
+    yield done(RELOCATE, 4, 4, before, (14, 4), top)
+    yield done(REALLOC, 4, 4, before, (4, 4), grown)
+    yield done(RELOCATE, 4, 9, before, (8, 10), whole)
+
+
+def swallowed_header_rows():
+    """A header that a move's free swallows keeps what it had after the alloc: a live mark, or a link stored anew."""
+    between_free = ("30 2 | 8 14 1004 1005 1006 1007 1008 1009 | 4 live 1012 1013 | 4 26 1016 1017"
+                    " | 8 live 1020 1021 1022 1023 1024 1025 | 4 0 1028 1029")
+    joined = ("30 14 | 8 live 1020 1021 1022 1023 1024 1025 | 4 live 1012 1013 | 16 0 1016 1017"
+              "   8 live 1020 1021 1022 1023 1024 1025   4 0 1028 1029")
+    yield done(RELOCATE, 20, 5, between_free, (4, 6), joined)
+    before_free = "22 6 | 4 live 1004 1005 | 4 14 1008 1009 | 4 live 1012 1013 | 8 0 1016 1017 1018 1019 1020 1021"
+    moved = "22 2 | 8 0 1004 1005 4 0 1008 1009 | 4 live 1012 1013 | 8 live 1004 1005 1018 1019 1020 1021"
+    grown = "22 14 | 8 live 1004 1005 4 14 1008 1009 | 4 live 1012 1013 | 8 0 1016 1017 1018 1019 1020 1021"
+    yield done(RELOCATE, 4, 6, before_free, (16, 6), moved)
+    yield done(RESIZE, 4, 6, before_free, (4, 6), grown)
+
+
+def refused_move_rows():
+    """A move lacks room where no gap holds the need, though the block could grow, or has that many words already."""
+    before = "16 8 | 6 live 1004 1005 1006 1007 | 4 0 1010 1011 | 4 live 1014 1015"
+    grown = "16 0 | 10 live 1004 1005 1006 1007 4 0 1010 1011 | 4 live 1014 1015"
+    moved = "16 2 | 6 0 1004 1005 1006 1007 | 4 live 1004 1005 | 4 live 1014 1015"
+    yield refused(RELOCATE, 4, 6, before, 6)
+    yield done(RESIZE, 4, 6, before, (4, 8), grown)
+    yield refused(RELOCATE, 4, 4, before, 6)
+    yield done(RESIZE, 4, 4, before, (4, 4), before)
+    yield done(RELOCATE, 4, 2, before, (10, 2), moved)
+    full = "12 0 | 6 live 1004 1005 1006 1007 | 4 live 1010 1011"
+    yield refused(RELOCATE, 4, 1, full, 6)
+    yield done(RESIZE, 4, 1, full, (4, 4), full)
+
+
+def order_rows():
+    """The lowest number that applies is given, and 8 comes after 5: no request above N-4 is told to move."""
+    sound = "16 8 | 6 live 1004 1005 1006 1007 | 4 0 1010 1011 | 4 live 1014 1015"
+    damaged = "16 0 | 6 live 1004 1005 1006 1007 | 4 0 1010 1011 | 4 live 1014 1015"
+    odd = "15 8 | 6 live 1004 1005 1006 1007 | 4 0 1010 1011 | 3 live 1014"
+    imitated = "16 0 | 10 live 1004 1005 4 live 1008 1009 1010 1011 | 4 live 1014 1015"
+    for call, last in ((RESIZE, 8), (RELOCATE, 6)):
+        yield refused(call, 4, 12, sound, last)
+        yield refused(call, 4, 13, sound, 5)
+        yield refused(call, 4, 4294967295, sound, 5)
+        yield refused(call, 4, 0, sound, 4)
+        yield refused(call, 6, 0, sound, 3)
+        yield refused(call, 10, 13, sound, 3)
+        yield refused(call, 8, 1, imitated, 3)
+        yield refused(call, 6, 0, damaged, 2)
+        yield refused(call, 4, 4, damaged, 2)
+        yield refused(call, 6, 0, odd, 1)
+        yield refused(call, 4, 4, odd, 1)
+
+
+ROWS = [live_neighbour_rows, short_neighbour_rows, grow_rows, cut_rows, shorter_move_rows, equal_move_rows,
+        gap_above_rows, swallowed_header_rows, refused_move_rows, order_rows]
+
+
+def compare(chosen):
+    """Every row through the model and through the program; the last line counts the rows."""
+    count = run_rows(chosen.cases, [row for rows in ROWS for row in rows()])
+    return f"{count} rows of resize and of the move compared with all their words"
+
+
+if __name__ == "__main__":
+    driver.finish("call_rows", compare, driver.options(__doc__, 1, named=("cases",)))
