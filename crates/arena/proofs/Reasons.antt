@@ -21,7 +21,8 @@ use Rattle.arena.proofs.Gates.{sound-lawful, unlawful-gate, damaged-gat
 use Rattle.arena.proofs.Blocks.{no-block-held, block-held, no-gap-fits}
 use Rattle.arena.proofs.Causes.{Grounds, Short, StartRefused, ReportRefused, BlockRefused, AllocRefused, RegrantRefused, ResizeRefused, RelocateRefused, ReallocRefused}
 use Rattle.arena.proofs.Cases.{Case, refuses, does, start-case, alloc-case, free-case, size-case, report-case}
-use Rattle.arena.proofs.Regranting.{Stays, by-own, by-next, by-none, stays-told, resize-case, relocate-case, three-ways, realloc-case}
+use Rattle.arena.proofs.Regranting.{Stays, by-own, by-next, by-none, stays-told, resize-case, relocate-case, realloc-case}
+use Rattle.arena.proofs.Reallocating.{three-ways}
 
 -- ---- the reason that is given is so
 

@@ -1,24 +1,23 @@
--- What resize, relocate and realloc come to, case by case, and that realloc, document 01's three ways, is the first and, if it is refused with WouldMove, the second.
-use mathlib.Core.Path.{_≡_, refl}
+-- What resize, relocate and realloc come to, case by case.
+use mathlib.Core.Path.{_≡_, refl, sym}
 use mathlib.Core.Logic.{_↔_}
 use mathlib.Core.Bool.{Bool, true, false, cond}
 use mathlib.Core.List.{List, [], _∷_, _++_}
 use lib.ListN.{length}
 use Prim.Native.Nat.{ℕ, _+_, _-_, _≤_, _<_, min}
 use native.Mathlib.Omega.{arith}
-use lib.Dec.{leb, eqb}
+use lib.Dec.{leb}
 use borrow.Author.Tests.{leb-true, leb-false}
 use Rattle.layout.specs.Numbers.{firstChunk, headerWords, need}
 use Rattle.layout.specs.Chunks.{Chunk, free, live, total, written}
 use Rattle.layout.specs.Walk.{sound}
-use Rattle.layout.specs.Reasons.{number}
 use Rattle.layout.specs.declared.Gate.{Gate}
 use Rattle.layout.specs.declared.Reason.{Reason}
-use Rattle.layout.specs.declared.Reason.the-variants.{Length, Damaged, NotABlock, Zero, TooLarge, NoRoom, Frame, WouldMove}
+use Rattle.layout.specs.declared.Reason.the-variants.{Length, Damaged, NotABlock, Zero, TooLarge, NoRoom, WouldMove}
 use Rattle.arena.specs.Answers.{Outcome, settle, pass}
 use Rattle.arena.specs.Spots.{Spot, at, held}
 use Rattle.arena.specs.Rules.{Way, shut, grants, orElse, taken, cut, trim, joined, released, copied, grantFrom, shrink, grow, move, Regrant, regranted, resized, relocated}
-use Rattle.arena.specs.Calls.{onBlock, granted, regrantBy, resizeOn, relocateOn, resizeElseRelocate, reallocOn}
+use Rattle.arena.specs.Calls.{onBlock, granted, regrantBy, resizeOn, relocateOn, reallocOn}
 use Rattle.arena.specs.Inside.Rooms.{roomWords}
 use Rattle.arena.proofs.Room.{room-words}
 use Rattle.arena.proofs.Moving.{cut-numbers}
@@ -84,11 +83,11 @@ pub data Regrants (a : List ℕ) (b n : ℕ) (values after : List ℕ) : Type 0 
   in-place : Resizes a b n values after → Regrants a b n values after
   elsewhere : ShortBlock a b (need n) → Relocates a b n values after → Regrants a b n values after
 
--- ---- resize and relocate
+-- ---- the calls
 
 module _ (a : List ℕ) (b n : ℕ) where
   -- what the gates and the block leave of a way
-  abbrev at-spot : Gate → Spot → Gate → Reason → Way → Outcome
+  abbrev pub at-spot : Gate → Spot → Gate → Reason → Way → Outcome
   at-spot arena spot request why way = settle 2 a (pass arena (onBlock spot (pass request (granted why way))))
 
   -- a call that grants a block anew: a gate is shut, there is no block, or all depends on the way at the block
@@ -127,61 +126,17 @@ module _ (a : List ℕ) (b n : ℕ) where
       go pre s post e r is (no-gap h) = refuses NoRoom (e, (r, (pre, s, post, is), h))
       go pre s post e r is (a-gap before g after gap) = does (moves e r pre s post is before g after gap _ refl _ refl _ refl)
 
-  -- ---- realloc is the two of them, one after the other
-
   -- where the need is longer than the old block, the shorter of the two blocks is the old one
-  shorter-old : (s g : ℕ) → s < need n → need n ≤ g → min (s - headerWords) (taken (need n) g - headerWords) ≡ s - headerWords
+  pub shorter-old : (s g : ℕ) → s < need n → need n ≤ g → min (s - headerWords) (taken (need n) g - headerWords) ≡ s - headerWords
   shorter-old s g l m = omega (arith, cut-numbers (need n) g m .enough)
 
-  pub three-ways : resizeElseRelocate a b n ≡ reallocOn a b n
-  unfolding regrantBy
-  three-ways = go (checked a) (held-told a b) (asked (length a) n) (fitting-told a (need n))
-    where
-      go : {arena request : Gate} {spot gap : Spot} → Checked a arena → Held a b spot → Asked (length a) n request → Fitting a (need n) gap
-          → cond (eqb (at-spot arena spot request WouldMove (resized b (need n) spot (grantFrom (need n) gap) a) .answer .code) (number WouldMove))
-          (at-spot arena spot request NoRoom (relocated b (need n) spot (grantFrom (need n) gap) a))
-          (at-spot arena spot request WouldMove (resized b (need n) spot (grantFrom (need n) gap) a))
-          ≡ at-spot arena spot request NoRoom (regranted b (need n) spot (grantFrom (need n) gap) a)
-      go (unlawful e) h q g = refl
-      go (damaged e f) h q g = refl
-      go (whole e) (no-block h) q g = refl
-      go (whole e) (a-block pre s post is) (for-none z) g = refl
-      go (whole e) (a-block pre s post is) (for-more m) g = refl
-      go (whole e) (a-block pre s post is) (for-some r) g = ways (stays-told a b (need n) pre s post) g
-        where
-          ways : {post : List Chunk} {first second : Way} {gap : Spot} → Stays a b (need n) pre s post first second → Fitting a (need n) gap
-              → cond (eqb (settle 2 a (granted WouldMove (orElse first second)) .answer .code) (number WouldMove))
-              (settle 2 a (granted NoRoom (relocated b (need n) (at pre (live s) post) (grantFrom (need n) gap) a)))
-              (settle 2 a (granted WouldMove (orElse first second)))
-              ≡ settle 2 a (granted NoRoom (orElse first (orElse second (move b (s - headerWords) (grantFrom (need n) gap) a))))
-          ways (by-own l) f = refl
-          ways (by-next l m) f = refl
-          ways (by-none l) (no-gap h) = refl
-          ways (by-none l) (a-gap before g after gap) = rw (shorter-old s g (l .own) (gap .enough))
-
   pub realloc-case : Case 2 a (ReallocRefused a b n) (Regrants a b n) (reallocOn a b n)
-  realloc-case = rw (← three-ways) (go resize-case relocate-case)
+  realloc-case = regrant-case NoRoom regranted _ _ (Regrants a b n) (λ e r pre s post is gap g. go pre s post e r is (stays-told a b (need n) pre s post) g)
     where
-      -- the resize would move, and so the move is made
-      second : {outcome : Outcome} → ShortBlock a b (need n) → Case 2 a (RelocateRefused a b n) (Relocates a b n) outcome → Case 2 a (ReallocRefused a b n) (Regrants a b n) outcome
-      second short (refuses Length e) = refuses Length e
-      second short (refuses Damaged e) = refuses Damaged e
-      second short (refuses NotABlock e) = refuses NotABlock e
-      second short (refuses Zero e) = refuses Zero e
-      second short (refuses TooLarge e) = refuses TooLarge e
-      second short (refuses NoRoom (e, (r, some, h))) = refuses NoRoom (e, (r, short, h))
-      second short (refuses Frame e) = absurd e
-      second short (refuses WouldMove e) = absurd (e .1)
-      second short (does d) = does (elsewhere short d)
-
-      go : {first other : Outcome} → Case 2 a (ResizeRefused a b n) (Resizes a b n) first → Case 2 a (RelocateRefused a b n) (Relocates a b n) other
-          → Case 2 a (ReallocRefused a b n) (Regrants a b n) (cond (eqb (first .answer .code) (number WouldMove)) other first)
-      go (refuses Length e) c = refuses Length e
-      go (refuses Damaged e) c = refuses Damaged e
-      go (refuses NotABlock e) c = refuses NotABlock e
-      go (refuses Zero e) c = refuses Zero e
-      go (refuses TooLarge e) c = refuses TooLarge e
-      go (refuses NoRoom e) c = absurd (e .1)
-      go (refuses Frame e) c = absurd e
-      go (refuses WouldMove (e, (r, short))) c = second short c
-      go (does d) c = does (in-place d)
+      go : {first second : Way} {gap : Spot} (pre : List Chunk) (s : ℕ) (post : List Chunk) → sound a ≡ true → Request a n → BlockAt a b pre s post → Stays a b (need n) pre s post first second → Fitting a (need n) gap
+          → Case 2 a (ReallocRefused a b n) (Regrants a b n) (settle 2 a (granted NoRoom (orElse first (orElse second (move b (s - headerWords) (grantFrom (need n) gap) a)))))
+      go pre s post e r is (by-own l) g = does (in-place (shrinks e r pre s post is l))
+      go pre s post e r is (by-next l m) g = does (in-place (grows e r pre s _ _ is l m))
+      go pre s post e r is (by-none l) (no-gap h) = refuses NoRoom (e, (r, (pre, s, post, is, l), h))
+      go pre s post e r is (by-none l) (a-gap before g after gap) =
+          does (elsewhere (pre, s, post, is, l) (moves e r pre s post is before g after gap _ refl _ refl _ (sym (shorter-old s g (l .own) (gap .enough)))))

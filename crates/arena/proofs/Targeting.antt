@@ -1,5 +1,5 @@
 -- What a target tells of the calls that grant a block anew: which of them it refuses, and what is left to do for the others.
-use mathlib.Core.Path.{_≡_, refl, sym}
+use mathlib.Core.Path.{_≡_, refl}
 use mathlib.Core.List.{List}
 use Prim.Native.Nat.{ℕ}
 use native.Mathlib.Omega.{arith}

@@ -1,7 +1,7 @@
 // The stores into an arena.
 use layout::wide;
 ghost use mathlib.Core.Path.{_≡_};
-ghost use Prim.Native.Nat.{_+_, _<_, _≤_};
+ghost use Prim.Native.Nat.{_+_, _<_};
 ghost use lib.ListN.{length, set};
 ghost use Rattle.layout.specs.Numbers.{wordValues, liveMark};
 ghost use Rattle.layout.specs.Chunks.{header};

@@ -1,5 +1,5 @@
 -- `target_of` meets its contract: a gate is shut, the search found no block, or both gates are open and it found one.
-use mathlib.Core.Path.{_≡_, refl, sym, ap, _∙_}
+use mathlib.Core.Path.{_≡_, sym, ap, _∙_}
 use mathlib.Core.Bool.{true}
 use lib.ListN.{length}
 use Rattle.layout.specs.Numbers.{lawful}
@@ -9,7 +9,7 @@ use Rattle.layout.specs.declared.Gate.the-variants.{Open}
 use Rattle.arena.specs.Spots.{held}
 use Rattle.arena.specs.Inside.Targets.{targetOf}
 use Rattle.arena.specs.Inside.Places.{placeOf}
-use Rattle.arena.proofs.Gates.{gate-open, sound-lawful, request-small, request-open}
+use Rattle.arena.proofs.Gates.{gate-open, sound-lawful, request-small}
 use Rattle.arena.specs.declared.places.Place.the-variants.{At}
 use borrow.Author.Needs.{needs}
 use Rattle.arena.proofs.targets.target_of.Statement.{statement}
