@@ -76,7 +76,7 @@ abbrev pub allotted : Grant → List ℕ → Way
 allotted none a = shut
 allotted (grant block granted ks) a = grants block granted (written ks a)
 
--- ---- realloc of block `b`
+-- ---- the three ways to grant block `b` anew
 
 -- if `s` words are enough, the block stays where it is and keeps its need of them
 abbrev pub stay : ℕ → ℕ → List Chunk → ℕ → List Chunk → List ℕ → Way
