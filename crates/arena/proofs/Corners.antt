@@ -1,5 +1,5 @@
--- Sentences of the rules that the calls' definitions say only together: where resize and realloc write nothing, that a resize keeps the block's number, and where a view is empty.
-use mathlib.Core.Path.{_≡_, refl, ap, _∙_}
+-- Sentences of the rules that the calls' definitions say only together: where resize and realloc write nothing, where a view is empty, and that a resize keeps the block's number and a move does not.
+use mathlib.Core.Path.{_≡_, refl, sym, ap, _∙_}
 use mathlib.Core.Logic.{_≢_, _↔_}
 use mathlib.Core.Bool.{true, false}
 use mathlib.Core.List.{List, [], _∷_, _++_}
@@ -8,22 +8,23 @@ use native.Mathlib.Omega.{arith}
 use lib.ListN.{length, getD, take, drop, length-take, length-drop}
 use borrow.Author.Tests.{le-leb, lt-leb}
 use Rattle.layout.specs.Numbers.{firstChunk, headerWords, leastSplit, need}
-use Rattle.layout.specs.Chunks.{Chunk, live, total, written}
+use Rattle.layout.specs.Chunks.{Chunk, free, live, total, written}
 use Rattle.layout.specs.Walk.{sound}
 use Rattle.layout.specs.declared.Reason.{Reason}
 use Rattle.layout.specs.declared.Reason.the-variants.{NoRoom, WouldMove}
-use Rattle.layout.proofs.Holds.{sizes-split, total-append}
+use Rattle.layout.proofs.Holds.{Sizes, sizes-split, total-append}
 use Rattle.layout.proofs.Reasons.{number-positive}
 use Rattle.layout.proofs.Written.{Arena, written-fixed}
 use Rattle.layout.proofs.Round.{sound-chunks}
 use Rattle.arena.specs.Answers.{Outcome}
 use Rattle.arena.specs.Rules.{orElse, shrink, grow, move, grantedAt, Regrant}
-use Rattle.arena.specs.Calls.{regrantBy, resizeOn, reallocOn, sizeOn, viewOn}
+use Rattle.arena.specs.Calls.{regrantBy, resizeOn, relocateOn, reallocOn, sizeOn, viewOn}
 use Rattle.arena.proofs.Joining.{joined-spaced}
 use Rattle.arena.proofs.Blocks.{BlockAt, block-held}
-use Rattle.arena.proofs.Causes.{Request, BlockRefused, ResizeRefused}
+use Rattle.arena.proofs.Causes.{Request, BlockRefused, ResizeRefused, RelocateRefused}
 use Rattle.arena.proofs.Cases.{Case, refuses, does, Measures, measures, size-case}
-use Rattle.arena.proofs.Regranting.{Resizes, shrinks, grows, resize-case}
+use Rattle.arena.proofs.Moving.{Order, gap-above, gap-below, order, cut-numbers}
+use Rattle.arena.proofs.Regranting.{Resizes, shrinks, grows, Relocates, moves, resize-case, relocate-case}
 use Rattle.arena.proofs.Gates.{sound-gate, request-gate}
 
 module _ (a : List ℕ) (b : ℕ) (pre : List Chunk) (s : ℕ) (post : List Chunk) (e : sound a ≡ true) (is : BlockAt a b pre s post) where
@@ -69,3 +70,18 @@ resize-stays a b n = go (resize-case a b n)
     go (refuses why r) code = absurd (omega (arith, number-positive why))
     go (does (shrinks e r pre s post is l)) code = refl
     go (does (grows e r pre s t post is l m)) code = refl
+
+-- a move that is done answers another number than it was given
+pub relocate-moves : (a : List ℕ) (b n : ℕ) → relocateOn a b n .answer .code ≡ 0 → getD (relocateOn a b n .answer .values) 0 0 ≢ b
+relocate-moves a b n = go (relocate-case a b n)
+  where
+    go : {outcome : Outcome} → Case 2 a (RelocateRefused a b n) (Relocates a b n) outcome → outcome .answer .code ≡ 0 → getD (outcome .answer .values) 0 0 ≢ b
+    go (refuses why r) code q = omega (arith, number-positive why)
+    go (does (moves e r pre s post is before g after gap block at-is ks same count shorter)) code q = elsewhere (order pre s post before g after (sym (is .same) ∙ gap .same))
+      where
+        elsewhere : Order pre s post before g after → ⊥
+        elsewhere (gap-above mid u v) =
+            let z : Sizes (live s ∷ post) = sizes-split pre (live s ∷ post) (rw (is .same) at (sound-chunks a e .law .sizes)) .1 in
+            omega (arith, ap total u ∙ total-append pre (live s ∷ mid), z .1, at-is, is .number-is)
+        elsewhere (gap-below mid u v) =
+            omega (arith, ap total u ∙ total-append before (free g ∷ mid), cut-numbers (need n) g (gap .enough) .enough, at-is, is .number-is)

@@ -22,7 +22,7 @@ use Rattle.arena.proofs.Gates.{sound-lawful, request-needed}
 use Rattle.arena.proofs.Taking.{cut-lawful}
 use Rattle.arena.proofs.Copying.{length-copied}
 use Rattle.arena.proofs.Joining.{joined-lawful}
-use Rattle.arena.proofs.Relocating.{Relocated, relocates}
+use Rattle.arena.proofs.Relocating.{OldStands, old-stands}
 use Rattle.arena.proofs.Starting.{whole-lawful}
 use Rattle.arena.proofs.Cases.{Case, refuses, does, Starts, starts, start-case, Allots, allots, alloc-case, Frees, frees, free-case}
 use Rattle.arena.proofs.Regranting.{Resizes, shrinks, grows, Relocates, moves, Regrants, in-place, elsewhere, resize-case, relocate-case, realloc-case}
@@ -76,7 +76,7 @@ module _ (a : List ℕ) (e : sound a ≡ true) where
       go false e = joined-lawful (length a) pre old (live words ∷ []) post l (even, omega (arith, n .least), tt) (omega arith)
 
 -- a block moves
-moved-kept : (a : List ℕ) (b block count s : ℕ) (ks : List Chunk) → Relocated (copied b block count (written ks a)) b s ks
+moved-kept : (a : List ℕ) (b block count s : ℕ) (ks : List Chunk) → OldStands (copied b block count (written ks a)) b s ks
     → Kept a (written (released (held b ks)) (copied b block count (written ks a)))
 moved-kept a b block count s ks r =
     let freed = written-kept _ _ (freed-lawful (copied b block count (written ks a)) (r .is-sound) (r .pre) s (r .post) (r .old .same)) in
@@ -117,7 +117,7 @@ module _ (a : List ℕ) where
   relocates-kept : (b n : ℕ) (values after : List ℕ) → Relocates a b n values after → Kept a after
   relocates-kept b n values after (moves e r pre s post is before g behind gap block at-is ks same count shorter) =
       moved-kept a b block count s ks
-      (relocates a (need n) pre s post before g behind b block count ks e (request-needed (length a) n (sound-lawful a e) r) is gap (omega arith) (omega arith) at-is same)
+      (old-stands a (need n) pre s post before g behind b block count ks e (request-needed (length a) n (sound-lawful a e) r) is gap (omega arith) (omega arith) at-is same)
 
   resize-kept : (b n : ℕ) → Kept a (resizeOn a b n .words)
   resize-kept b n = kept (resizes-kept b n) (resize-case a b n)
@@ -130,7 +130,7 @@ module _ (a : List ℕ) where
     where
       go : (values after : List ℕ) → Regrants a b n values after → Kept a after
       go values after (in-place d) = resizes-kept b n values after d
-      go values after (elsewhere short d) = relocates-kept b n values after d
+      go values after (elsewhere d) = relocates-kept b n values after d
 
   -- ---- the number of words
 

@@ -75,6 +75,10 @@ cut-numbers need g l = go (leb leastSplit (g - need)) refl
     go false e =
         record { uncut-total = rw e (omega arith); cut-total = rw e (omega arith); enough = rw e l; within = rw e (omega arith) }
 
+-- where the need is longer than an old chunk of `s` words, the shorter of the old block and the new one is the old one
+pub shorter-old : (need s g : ℕ) → s < need → need ≤ g → min (s - headerWords) (taken need g - headerWords) ≡ s - headerWords
+shorter-old need s g l m = omega (arith, cut-numbers need g m .enough)
+
 -- ---- the word that names the first free chunk after some
 
 pub linkAt-append : (base c : ℕ) (ks ls : List Chunk) (d : ℕ) → d ≡ c + total ks → linkAt base c (ks ++ ls) ≡ linkAt (linkAt base c ks) d ls

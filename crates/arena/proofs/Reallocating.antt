@@ -6,48 +6,40 @@ use mathlib.Core.List.{List}
 use Prim.Native.Nat.{ℕ, _-_}
 use native.Mathlib.Omega.{arith}
 use lib.Dec.{eqb}
-use lib.ListN.{length}
 use borrow.Author.Tests.{eq-eqb, ne-eqb}
 use Rattle.layout.specs.Numbers.{headerWords, need}
 use Rattle.layout.specs.Chunks.{Chunk, live}
 use Rattle.layout.specs.Reasons.{number}
-use Rattle.layout.specs.declared.Gate.{Gate}
+use Rattle.layout.specs.declared.Reason.{Reason}
 use Rattle.layout.specs.declared.Reason.the-variants.{NoRoom, WouldMove}
-use Rattle.arena.specs.Answers.{Answer, refusal, settle, Gives}
+use Rattle.arena.specs.Answers.{Answer, Outcome, refusal, settle, Gives}
 use Rattle.arena.specs.Spots.{Spot, at}
-use Rattle.arena.specs.Rules.{Way, orElse, grantFrom, move, regranted, resized, relocated}
-use Rattle.arena.specs.Calls.{granted, regrantBy, resizeOn, relocateOn, resizeElseRelocate, reallocOn}
-use Rattle.arena.proofs.Blocks.{Held, no-block, a-block, held-told, Fitting, no-gap, a-gap, fitting-told}
-use Rattle.arena.proofs.Gates.{Checked, unlawful, damaged, whole, checked, Asked, for-none, for-more, for-some, asked}
-use Rattle.arena.proofs.Regranting.{Stays, by-own, by-next, by-none, stays-told, at-spot, shorter-old}
-use Rattle.arena.proofs.Refusing.{resize-refused-unchanged}
+use Rattle.arena.specs.Rules.{Way, orElse, grantFrom, move, Regrant, regranted, resized, relocated}
+use Rattle.arena.specs.Calls.{granted, resizeOn, relocateOn, resizeElseRelocate, reallocOn}
+use Rattle.arena.specs.declared.targets.Target.{Target}
+use Rattle.arena.proofs.Blocks.{Fitting, no-gap, a-gap, fitting-told}
+use Rattle.arena.proofs.Moving.{shorter-old}
+use Rattle.arena.proofs.Regranting.{Stays, by-own, by-next, by-none, stays-told}
+use Rattle.arena.proofs.Targeting.{Targets, all-refused, at-block, targets}
 
 module _ (a : List ℕ) (b n : ℕ) where
   pub three-ways : resizeElseRelocate a b n ≡ reallocOn a b n
-  unfolding regrantBy
-  three-ways = go (checked a) (held-told a b) (asked (length a) n) (fitting-told a (need n))
+  three-ways = go (targets a b n ⊥ ⊥) refl
     where
-      go : {arena request : Gate} {spot gap : Spot} → Checked a arena → Held a b spot → Asked (length a) n request → Fitting a (need n) gap
-          → cond (eqb (at-spot a b n arena spot request WouldMove (resized b (need n) spot (grantFrom (need n) gap) a) .answer .code) (number WouldMove))
-          (at-spot a b n arena spot request NoRoom (relocated b (need n) spot (grantFrom (need n) gap) a))
-          (at-spot a b n arena spot request WouldMove (resized b (need n) spot (grantFrom (need n) gap) a))
-          ≡ at-spot a b n arena spot request NoRoom (regranted b (need n) spot (grantFrom (need n) gap) a)
-      go (unlawful e) h q g = refl
-      go (damaged e f) h q g = refl
-      go (whole e) (no-block h) q g = refl
-      go (whole e) (a-block pre s post is) (for-none z) g = refl
-      go (whole e) (a-block pre s post is) (for-more m) g = refl
-      go (whole e) (a-block pre s post is) (for-some r) g = ways (stays-told a b (need n) pre s post) g
+      go : {target : Target} {call : Reason → Regrant → Outcome} → Targets a b n ⊥ ⊥ target call → relocateOn a b n ≡ call NoRoom relocated
+          → cond (eqb (call WouldMove resized .answer .code) (number WouldMove)) (relocateOn (call WouldMove resized .words) b n) (call WouldMove resized) ≡ call NoRoom regranted
+      go (all-refused why low so) second = rw (ne-eqb (number why) (number WouldMove) (omega arith))
+      go (at-block e r pre s post is) second = ways (stays-told a b (need n) pre s post) (fitting-told a (need n)) second
         where
-          ways : {post : List Chunk} {first second : Way} {gap : Spot} → Stays a b (need n) pre s post first second → Fitting a (need n) gap
-              → cond (eqb (settle 2 a (granted WouldMove (orElse first second)) .answer .code) (number WouldMove))
-              (settle 2 a (granted NoRoom (relocated b (need n) (at pre (live s) post) (grantFrom (need n) gap) a)))
-              (settle 2 a (granted WouldMove (orElse first second)))
-              ≡ settle 2 a (granted NoRoom (orElse first (orElse second (move b (s - headerWords) (grantFrom (need n) gap) a))))
-          ways (by-own l) f = refl
-          ways (by-next l m) f = refl
-          ways (by-none l) (no-gap h) = refl
-          ways (by-none l) (a-gap before g after gap) = rw (shorter-old a b n s g (l .own) (gap .enough))
+          ways : {next : List Chunk} {first other : Way} {gap : Spot} → Stays a b (need n) pre s next first other → Fitting a (need n) gap
+              → relocateOn a b n ≡ settle 2 a (granted NoRoom (relocated b (need n) (at pre (live s) post) (grantFrom (need n) gap) a))
+              → let resize = settle 2 a (granted WouldMove (orElse first other)) in
+              cond (eqb (resize .answer .code) (number WouldMove)) (relocateOn (resize .words) b n) resize
+              ≡ settle 2 a (granted NoRoom (orElse first (orElse other (move b (s - headerWords) (grantFrom (need n) gap) a))))
+          ways (by-own l) f m = refl
+          ways (by-next l k) f m = refl
+          ways (by-none l) (no-gap h) m = m
+          ways (by-none l) (a-gap before g after gap) m = rw (← shorter-old (need n) s g (l .own) (gap .enough)) m
 
   -- ---- what the two calls give of it
 
@@ -62,5 +54,4 @@ module _ (a : List ℕ) (b n : ℕ) where
       → Gives (reallocOn a b n) answer after
   relocate-gives-realloc kept answer after first g =
       let code : resizeOn a b n .answer .code ≡ number WouldMove = sym (ap (λ (r : Answer). r .code) (first .answers)) in
-      let same : kept ≡ a = first .leaves ∙ resize-refused-unchanged a b n (λ e. omega arith) in
-      rw (← three-ways, eq-eqb (resizeOn a b n .answer .code) (number WouldMove) code) (rw same at g)
+      rw (← three-ways, eq-eqb (resizeOn a b n .answer .code) (number WouldMove) code, ← first .leaves) g

@@ -22,6 +22,7 @@ use Rattle.arena.proofs.Blocks.{no-block-held, block-held, no-gap-fits}
 use Rattle.arena.proofs.Causes.{Grounds, Short, StartRefused, ReportRefused, BlockRefused, AllocRefused, RegrantRefused, ResizeRefused, RelocateRefused, ReallocRefused}
 use Rattle.arena.proofs.Cases.{Case, refuses, does, start-case, alloc-case, free-case, size-case, report-case}
 use Rattle.arena.proofs.Regranting.{Stays, by-own, by-next, by-none, stays-told, resize-case, relocate-case, realloc-case}
+use Rattle.arena.proofs.Refusing.{resize-refused-unchanged}
 use Rattle.arena.proofs.Reallocating.{three-ways}
 
 -- ---- the reason that is given is so
@@ -48,14 +49,14 @@ module _ (a : List ℕ) (block zero large room stuck : Type 0) where
   -- on a sound arena, where block and request give no reason, one of the last two is left
   pub only-last : sound a ≡ true → (block → ⊥) → (zero → ⊥) → (large → ⊥) → (Last : Type 0) → (room → Last) → (stuck → Last)
       → (why : Reason) → Grounds a block zero large room stuck why → Last
-  only-last e b z m Last full held Length l = absurd (true≢false (sym (sound-lawful a e) ∙ l))
-  only-last e b z m Last full held Damaged h = absurd (true≢false (sym e ∙ h .1))
-  only-last e b z m Last full held NotABlock h = absurd (b (h .1))
-  only-last e b z m Last full held Zero h = absurd (z (h .1))
-  only-last e b z m Last full held TooLarge h = absurd (m (h .1))
-  only-last e b z m Last full held NoRoom h = full (h .1)
-  only-last e b z m Last full held Frame h = absurd h
-  only-last e b z m Last full held WouldMove h = held (h .1)
+  only-last e b z m Last no-room would-move Length l = absurd (true≢false (sym (sound-lawful a e) ∙ l))
+  only-last e b z m Last no-room would-move Damaged h = absurd (true≢false (sym e ∙ h .1))
+  only-last e b z m Last no-room would-move NotABlock h = absurd (b (h .1))
+  only-last e b z m Last no-room would-move Zero h = absurd (z (h .1))
+  only-last e b z m Last no-room would-move TooLarge h = absurd (m (h .1))
+  only-last e b z m Last no-room would-move NoRoom h = no-room (h .1)
+  only-last e b z m Last no-room would-move Frame h = absurd h
+  only-last e b z m Last no-room would-move WouldMove h = would-move (h .1)
 
 -- ---- the reason that is so is given
 
@@ -111,14 +112,14 @@ module _ (a : List ℕ) where
       ((sound a ≡ true) × room → code ≡ number NoRoom) → ((sound a ≡ true) × stuck → code ≡ number WouldMove)
       → (why : Reason) → RegrantRefused a b n room stuck why → code ≡ number why
   unfolding regrantBy
-  regrant-gives b n last rule room stuck full held Length l = rw (unlawful-gate a l)
-  regrant-gives b n last rule room stuck full held Damaged (l, s) = rw (damaged-gate a l s)
-  regrant-gives b n last rule room stuck full held NotABlock (e, h) = rw (sound-gate a e, no-block-held a b h)
-  regrant-gives b n last rule room stuck full held Zero (e, ((pre, s, post, is), z)) = rw (sound-gate a e, block-held a b pre s post e is, zero-gate a n z)
-  regrant-gives b n last rule room stuck full held TooLarge (e, ((pre, s, post, is), m)) = rw (sound-gate a e, block-held a b pre s post e is, large-gate a n m)
-  regrant-gives b n last rule room stuck full held NoRoom h = full h
-  regrant-gives b n last rule room stuck full held Frame h = absurd h
-  regrant-gives b n last rule room stuck full held WouldMove h = held h
+  regrant-gives b n last rule room stuck no-room would-move Length l = rw (unlawful-gate a l)
+  regrant-gives b n last rule room stuck no-room would-move Damaged (l, s) = rw (damaged-gate a l s)
+  regrant-gives b n last rule room stuck no-room would-move NotABlock (e, h) = rw (sound-gate a e, no-block-held a b h)
+  regrant-gives b n last rule room stuck no-room would-move Zero (e, ((pre, s, post, is), z)) = rw (sound-gate a e, block-held a b pre s post e is, zero-gate a n z)
+  regrant-gives b n last rule room stuck no-room would-move TooLarge (e, ((pre, s, post, is), m)) = rw (sound-gate a e, block-held a b pre s post e is, large-gate a n m)
+  regrant-gives b n last rule room stuck no-room would-move NoRoom h = no-room h
+  regrant-gives b n last rule room stuck no-room would-move Frame h = absurd h
+  regrant-gives b n last rule room stuck no-room would-move WouldMove h = would-move h
 
   resize-gives : (b n : ℕ) (why : Reason) → ResizeRefused a b n why → resizeOn a b n .answer .code ≡ number why
   unfolding regrantBy
@@ -134,12 +135,13 @@ module _ (a : List ℕ) where
   unfolding regrantBy
   relocate-gives b n = regrant-gives b n NoRoom relocated _ _ (λ (e, (r, (pre, s, post, is), h)). rw (sound-gate a e, block-held a b pre s post e is, request-gate a n r, no-gap-fits a (need n) h)) (λ h. absurd (h .1))
 
-  -- realloc gives the resize's reason or, where the resize would move, the move's
+  -- realloc lacks room where the resize would move the block and the move lacks room
   realloc-gives : (b n : ℕ) (why : Reason) → ReallocRefused a b n why → reallocOn a b n .answer .code ≡ number why
   realloc-gives b n =
       regrant-gives b n NoRoom regranted _ _
       (λ (e, (r, short, h)). let (pre, s, post, is, l) = short in
-      rw (← three-ways a b n, resize-gives b n WouldMove (e, (r, short)), relocate-gives b n NoRoom (e, (r, (pre, s, post, is), h))))
+      let would = resize-gives b n WouldMove (e, (r, short)) in
+      rw (← three-ways a b n, would, resize-refused-unchanged a b n (λ q. omega (arith, would, q)), relocate-gives b n NoRoom (e, (r, (pre, s, post, is), h))))
       (λ h. absurd (h .1))
 
 -- ---- the calls

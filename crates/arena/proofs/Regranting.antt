@@ -3,7 +3,6 @@ use mathlib.Core.Path.{_≡_, refl, sym}
 use mathlib.Core.Logic.{_↔_}
 use mathlib.Core.Bool.{Bool, true, false, cond}
 use mathlib.Core.List.{List, [], _∷_, _++_}
-use lib.ListN.{length}
 use Prim.Native.Nat.{ℕ, _+_, _-_, _≤_, _<_, min}
 use native.Mathlib.Omega.{arith}
 use lib.Dec.{leb}
@@ -11,20 +10,20 @@ use borrow.Author.Tests.{leb-true, leb-false}
 use Rattle.layout.specs.Numbers.{firstChunk, headerWords, need}
 use Rattle.layout.specs.Chunks.{Chunk, free, live, total, written}
 use Rattle.layout.specs.Walk.{sound}
-use Rattle.layout.specs.declared.Gate.{Gate}
 use Rattle.layout.specs.declared.Reason.{Reason}
-use Rattle.layout.specs.declared.Reason.the-variants.{Length, Damaged, NotABlock, Zero, TooLarge, NoRoom, WouldMove}
-use Rattle.arena.specs.Answers.{Outcome, settle, pass}
+use Rattle.layout.specs.declared.Reason.the-variants.{NoRoom, WouldMove}
+use Rattle.arena.specs.Answers.{Outcome, settle}
 use Rattle.arena.specs.Spots.{Spot, at, held}
 use Rattle.arena.specs.Rules.{Way, shut, grants, orElse, taken, cut, trim, joined, released, copied, grantFrom, shrink, grow, move, Regrant, regranted, resized, relocated}
-use Rattle.arena.specs.Calls.{onBlock, granted, regrantBy, resizeOn, relocateOn, reallocOn}
+use Rattle.arena.specs.Calls.{granted, regrantBy, resizeOn, relocateOn, reallocOn}
 use Rattle.arena.specs.Inside.Rooms.{roomWords}
+use Rattle.arena.specs.declared.targets.Target.{Target}
 use Rattle.arena.proofs.Room.{room-words}
-use Rattle.arena.proofs.Moving.{cut-numbers}
-use Rattle.arena.proofs.Blocks.{BlockAt, GapAt, Held, no-block, a-block, held-told, Fitting, no-gap, a-gap, fitting-told}
-use Rattle.arena.proofs.Causes.{Request, Short, ShortBlock, RegrantRefused, ResizeRefused, RelocateRefused, ReallocRefused}
+use Rattle.arena.proofs.Moving.{shorter-old}
+use Rattle.arena.proofs.Blocks.{BlockAt, GapAt, Fitting, no-gap, a-gap, fitting-told}
+use Rattle.arena.proofs.Causes.{Request, Short, RegrantRefused, ResizeRefused, RelocateRefused, ReallocRefused}
 use Rattle.arena.proofs.Cases.{Case, refuses, does}
-use Rattle.arena.proofs.Gates.{Checked, unlawful, damaged, whole, checked, Asked, for-none, for-more, for-some, asked}
+use Rattle.arena.proofs.Targeting.{Targets, all-refused, at-block, targets}
 
 -- the words of the chunk and of a free chunk right after it are too few exactly when its room is
 pub short-room : (s : ℕ) (post : List Chunk) (need : ℕ) → Short s post need ↔ (roomWords s post < need)
@@ -81,32 +80,21 @@ pub data Relocates (a : List ℕ) (b n : ℕ) : List ℕ → List ℕ → Type 0
 -- realloc: one or the other
 pub data Regrants (a : List ℕ) (b n : ℕ) (values after : List ℕ) : Type 0 where
   in-place : Resizes a b n values after → Regrants a b n values after
-  elsewhere : ShortBlock a b (need n) → Relocates a b n values after → Regrants a b n values after
+  elsewhere : Relocates a b n values after → Regrants a b n values after
 
 -- ---- the calls
 
 module _ (a : List ℕ) (b n : ℕ) where
-  -- what the gates and the block leave of a way
-  abbrev pub at-spot : Gate → Spot → Gate → Reason → Way → Outcome
-  at-spot arena spot request why way = settle 2 a (pass arena (onBlock spot (pass request (granted why way))))
-
-  -- a call that grants a block anew: a gate is shut, there is no block, or all depends on the way at the block
+  -- a call that grants a block anew is refused before its rule is asked, or all depends on the rule at the block
   regrant-case : (why : Reason) (rule : Regrant) (room stuck : Type 0) (Does : List ℕ → List ℕ → Type 0)
       → (sound a ≡ true → Request a n → (pre : List Chunk) (s : ℕ) (post : List Chunk) → BlockAt a b pre s post → (gap : Spot) → Fitting a (need n) gap
       → Case 2 a (RegrantRefused a b n room stuck) Does (settle 2 a (granted why (rule b (need n) (at pre (live s) post) (grantFrom (need n) gap) a))))
       → Case 2 a (RegrantRefused a b n room stuck) Does (regrantBy why rule a b n)
-  unfolding regrantBy
-  regrant-case why rule room stuck Does at-block = go (checked a) (held-told a b) (asked (length a) n) (fitting-told a (need n))
+  regrant-case why rule room stuck Does there = go (targets a b n room stuck)
     where
-      go : {arena request : Gate} {spot gap : Spot} → Checked a arena → Held a b spot → Asked (length a) n request → Fitting a (need n) gap
-          → Case 2 a (RegrantRefused a b n room stuck) Does
-          (at-spot arena spot request why (rule b (need n) spot (grantFrom (need n) gap) a))
-      go (unlawful e) h q g = refuses Length e
-      go (damaged e f) h q g = refuses Damaged (e, f)
-      go (whole e) (no-block h) q g = refuses NotABlock (e, h)
-      go (whole e) (a-block pre s post is) (for-none z) g = refuses Zero (e, ((pre, s, post, is), z))
-      go (whole e) (a-block pre s post is) (for-more m) g = refuses TooLarge (e, ((pre, s, post, is), m))
-      go (whole e) (a-block pre s post is) (for-some r) g = at-block e r pre s post is _ g
+      go : {target : Target} {call : Reason → Regrant → Outcome} → Targets a b n room stuck target call → Case 2 a (RegrantRefused a b n room stuck) Does (call why rule)
+      go (all-refused r low so) = refuses r so
+      go (at-block e r pre s post is) = there e r pre s post is _ (fitting-told a (need n))
 
   pub resize-case : Case 2 a (ResizeRefused a b n) (Resizes a b n) (resizeOn a b n)
   resize-case =
@@ -126,10 +114,6 @@ module _ (a : List ℕ) (b n : ℕ) where
       go pre s post e r is (no-gap h) = refuses NoRoom (e, (r, (pre, s, post, is), h))
       go pre s post e r is (a-gap before g after gap) = does (moves e r pre s post is before g after gap _ refl _ refl _ refl)
 
-  -- where the need is longer than the old block, the shorter of the two blocks is the old one
-  pub shorter-old : (s g : ℕ) → s < need n → need n ≤ g → min (s - headerWords) (taken (need n) g - headerWords) ≡ s - headerWords
-  shorter-old s g l m = omega (arith, cut-numbers (need n) g m .enough)
-
   pub realloc-case : Case 2 a (ReallocRefused a b n) (Regrants a b n) (reallocOn a b n)
   realloc-case = regrant-case NoRoom regranted _ _ (Regrants a b n) (λ e r pre s post is gap g. go pre s post e r is (stays-told a b (need n) pre s post) g)
     where
@@ -139,4 +123,4 @@ module _ (a : List ℕ) (b n : ℕ) where
       go pre s post e r is (by-next l m) g = does (in-place (grows e r pre s _ _ is l m))
       go pre s post e r is (by-none l) (no-gap h) = refuses NoRoom (e, (r, (pre, s, post, is, l), h))
       go pre s post e r is (by-none l) (a-gap before g after gap) =
-          does (elsewhere (pre, s, post, is, l) (moves e r pre s post is before g after gap _ refl _ refl _ (sym (shorter-old s g (l .own) (gap .enough)))))
+          does (elsewhere (moves e r pre s post is before g after gap _ refl _ refl _ (sym (shorter-old (need n) s g (l .own) (gap .enough)))))

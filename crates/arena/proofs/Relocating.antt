@@ -14,7 +14,7 @@ use Rattle.arena.proofs.Moving.{beyond, moved, moved-stands}
 use Rattle.arena.proofs.Blocks.{BlockAt, GapAt}
 
 -- in the words `there`, once the need was granted and the words were copied, the chunks are `ks`, and the old block `b` is the live chunk of `s` words between `pre` and `post`
-pub record Relocated (there : List ℕ) (b s : ℕ) (ks : List Chunk) : Type 0 where
+pub record OldStands (there : List ℕ) (b s : ℕ) (ks : List Chunk) : Type 0 where
   pub pre : List Chunk
   pub post : List Chunk
   pub is-sound : sound there ≡ true
@@ -22,11 +22,11 @@ pub record Relocated (there : List ℕ) (b s : ℕ) (ks : List Chunk) : Type 0 w
   pub old : BlockAt there b pre s post
   pub leaves : written (released (held b ks)) there ≡ written (joined (pre ++ free s ∷ post)) there
 
-pub relocates : (a : List ℕ) (need : ℕ) (pre : List Chunk) (s : ℕ) (post before : List Chunk) (g : ℕ) (after : List Chunk) (b block count : ℕ) (ks : List Chunk) → sound a ≡ true
+pub old-stands : (a : List ℕ) (need : ℕ) (pre : List Chunk) (s : ℕ) (post before : List Chunk) (g : ℕ) (after : List Chunk) (b block count : ℕ) (ks : List Chunk) → sound a ≡ true
     → Needed need → BlockAt a b pre s post → GapAt a need before g after → count ≤ s - headerWords → count ≤ taken need g - headerWords
     → block ≡ firstChunk + total before + (g - taken need g) + headerWords → ks ≡ before ++ (cut need g ++ after)
-    → Relocated (copied b block count (written ks a)) b s ks
-relocates a need pre s post before g after b block count ks e n is gap own room at-is same =
+    → OldStands (copied b block count (written ks a)) b s ks
+old-stands a need pre s post before g after b block count ks e n is gap own room at-is same =
     let old : Stands a pre (live s) post (linkAt listWord firstChunk pre) (firstChunk + total pre) = record { is-sound = e; same = is .same; link-is = refl; at-is = refl } in
     let new : Stands a before (free g) after (linkAt listWord firstChunk before) (firstChunk + total before) = record { is-sound = e; same = gap .same; link-is = refl; at-is = refl } in
     let stays = beyond a pre s post _ _ old before g after _ _ new need n (gap .enough) in

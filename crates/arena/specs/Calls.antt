@@ -68,9 +68,9 @@ resizeOn a b n = regrantBy WouldMove resized a b n
 abbrev pub relocateOn : List ℕ → ℕ → ℕ → Outcome
 relocateOn a b n = regrantBy NoRoom relocated a b n
 
--- the resize and, if it is refused with WouldMove, the move. That this is realloc is a theorem
+-- the resize and, if it is refused with WouldMove, the move on the words that it left. That this is realloc is a theorem
 abbrev pub resizeElseRelocate : List ℕ → ℕ → ℕ → Outcome
-resizeElseRelocate a b n = cond (eqb (resizeOn a b n .answer .code) (number WouldMove)) (relocateOn a b n) (resizeOn a b n)
+resizeElseRelocate a b n = let first = resizeOn a b n in cond (eqb (first .answer .code) (number WouldMove)) (relocateOn (first .words) b n) first
 
 -- the granted words of a block
 unfoldable pub sizeOn : List ℕ → ℕ → Outcome

@@ -9,7 +9,7 @@ use super::release::Room;
 use super::stores;
 use layout::wide;
 ghost use mathlib.Core.Path.{_≡_};
-ghost use Prim.Native.Nat.{_≤_, min};
+ghost use Prim.Native.Nat.{_≤_};
 ghost use lib.ListN.{length};
 ghost use Rattle.layout.specs.Numbers.{greatestLength};
 ghost use Rattle.arena.specs.Rules.{resized, relocated};
@@ -73,16 +73,6 @@ fn link_after(link: usize, gap_link: usize, gap: usize, new: usize) -> usize
     gap_link
 }
 
-// The smaller of two numbers.
-fn smaller(x: usize, y: usize) -> usize
-    ensures { λ r. ⌜ r ≡ min x y ⌝ }
-{
-    if x < y {
-        return x;
-    }
-    y
-}
-
 // Way 3: the block moves, and the old one is freed once as many words are copied as the shorter of the two has.
 pub(crate) fn relocate_at(a: &mut [u32], link: usize, chunk: usize, need: usize) -> Way
     requires { ⌜ LiveAt (now a) link chunk × Needed need ⌝ }
@@ -95,7 +85,7 @@ pub(crate) fn relocate_at(a: &mut [u32], link: usize, chunk: usize, need: usize)
     let old_words = layout::block_words(wide(a[chunk]));
     let piece = grant::take(a, gap_link, gap, need);
     let new = piece.chunk;
-    let count = smaller(old_words, layout::block_words(piece.words));
+    let count = layout::smaller(old_words, layout::block_words(piece.words));
     stores::copy(
         a,
         chunk + layout::HEADER_WORDS,

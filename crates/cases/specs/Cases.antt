@@ -28,7 +28,7 @@ answered x = padded (x .code) (x .values)
 abbrev pub unknown : List ℕ → Outcome
 unknown a = record { answer = refusal 0 Frame; words = a }
 
--- what call number `call` comes to, on block `b` or for `n` words
+-- what call number `call` comes to, on block `b` or for `n` words; 7 and 8 are the views, below
 unfoldable pub outcomeOf : ℕ → ℕ → ℕ → List ℕ → Outcome
 outcomeOf call b n a =
     cond (eqb call 1) (startOn a)

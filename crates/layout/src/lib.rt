@@ -1,7 +1,7 @@
 // The layout of an arena: which words are lawful, what stands in them, and what a request needs.
 ghost use mathlib.Core.Path.{_≡_};
 ghost use mathlib.Core.Bool.{true, false};
-ghost use Prim.Native.Nat.{_+_, _-_, _≤_, _<_};
+ghost use Prim.Native.Nat.{_+_, _-_, _≤_, _<_, min};
 ghost use lib.ListN.{length};
 ghost use Rattle.layout.specs.Numbers.{lawful, greatestLength, headerWords};
 ghost use Rattle.layout.specs.Numbers.{need as needOf};
@@ -68,6 +68,16 @@ pub fn wide(x: u32) -> usize
     ensures { λ r. ⌜ r ≡ x ⌝ }
 {
     x as usize
+}
+
+// The smaller of two numbers.
+pub fn smaller(x: usize, y: usize) -> usize
+    ensures { λ r. ⌜ r ≡ min x y ⌝ }
+{
+    if x < y {
+        return x;
+    }
+    y
 }
 
 // Whether an arena may have `n` words.

@@ -19,7 +19,7 @@ use Rattle.arena.proofs.Starting.{whole-lawful}
 use Rattle.arena.proofs.Causes.{Request}
 use Rattle.arena.proofs.Cases.{Case, refuses, does, Starts, starts, start-case, Allots, allots, alloc-case, Frees, frees, free-case, Measures, measures, size-case, Reports, reports, report-case}
 use Rattle.arena.proofs.Regranting.{Resizes, shrinks, grows, Relocates, moves, Regrants, in-place, elsewhere, resize-case, relocate-case, realloc-case}
-use Rattle.arena.proofs.Relocating.{relocates}
+use Rattle.arena.proofs.Relocating.{old-stands}
 use Rattle.ledger.specs.Events.{Call, start, alloc, free, resize, relocate, realloc, size, view, report, call, ours}
 use Rattle.ledger.specs.Ledger.{Ledger, grants, frees, regrants, effect, noted, ifDone, ledgerAfter}
 use Rattle.ledger.specs.Holders.{renamed}
@@ -70,11 +70,11 @@ module _ (n : ℕ) (a : List ℕ) (ledger : Ledger) (g : Agrees n a ledger) wher
   relocate-goes b w values after (moves e r pre s post is before t behind fit block at-is ks same count shorter) =
       rw (same, at-is)
       (moved-goes n a ledger g b pre s post is before t behind (need w) (fit .same) (needed w r) (fit .enough) count shorter
-      (relocates a (need w) pre s post before t behind b _ count _ e (needed w r) is fit (omega arith) (omega arith) refl refl))
+      (old-stands a (need w) pre s post before t behind b _ count _ e (needed w r) is fit (omega arith) (omega arith) refl refl))
 
   realloc-goes : (b w : ℕ) (values after : List ℕ) → Regrants a b w values after → Goes n a ledger (renamed (regrants b) (success values)) after (noted (regrants b) (success values) ledger)
   realloc-goes b w values after (in-place d) = resize-goes b w values after d
-  realloc-goes b w values after (elsewhere short d) = relocate-goes b w values after d
+  realloc-goes b w values after (elsewhere d) = relocate-goes b w values after d
 
   size-goes : (b : ℕ) (values after : List ℕ) → Measures a b values after → Goes n a ledger (λ c. c) after ledger
   size-goes b values after (measures e pre s post is) = unchanged-goes n a ledger g

@@ -1,4 +1,4 @@
--- Runs that are there, computed: that of document 01's table; its move, which goes on to a cut and a free, with what was stored last in the block; and the same move by resize and relocate, which goes on to a move to a shorter block.
+-- Runs that are there, computed: that of document 01's table; its move, which goes on to a cut and a free, with what was stored last in the block; and the same move by resize and relocate, which goes on to a move to a shorter block, and to a resize.
 use Prim.Native.Nat.{ℕ, _<_}
 use mathlib.Core.Path.{_≡_, refl, ap}
 use mathlib.Core.Logic.{_≢_, inl, ⊎-elim}
@@ -282,7 +282,7 @@ pub block-ended : Ended ours (call (free 18)) cutState 18
 unfolding freeOn arenaGate sound chunksOf walked walkFrom walk meet lowest
 block-ended = (refl, inl refl)
 
--- ---- the same move as resize and relocate, and a move to a shorter block
+-- ---- the same move as resize and relocate, a move to a shorter block, and a resize that is done
 
 -- the resize of block 26 is refused, and the move makes of it what the realloc made of it
 unfoldable pub halves : Run ours 32 movedState
@@ -306,7 +306,24 @@ unfoldable pub shortened : Run ours 32 shorterState
 unfolding regrantBy arenaGate requestGate sound chunksOf walked walkFrom walk meet lowest joined copied written write header enter strike
 shortened = play halves (call (relocate 18 1) ∷ []) (tt, tt)
 
--- the resize is refused with 8, and both moves are done
-pub halves-answers : answers shortened ≡ answers stored ++ record { code = 8; values = 0 ∷ 0 ∷ [] } ∷ success (18 ∷ 6 ∷ []) ∷ success (14 ∷ 2 ∷ []) ∷ []
-unfolding startOn allocBy regrantBy arenaGate requestGate sound chunksOf walked walkFrom walk meet lowest written write header held stored halves shortened
+-- then it grows where it stands, into the free chunk above it
+abbrev grownState : State
+grownState =
+    record {
+      words =
+          32 ∷ 2 ∷ 10 ∷ 18 ∷ 0 ∷ 0 ∷ 0 ∷ 0
+          ∷ 0 ∷ 0 ∷ 0 ∷ 0 ∷ 6 ∷ 4294967295 ∷ 5 ∷ 7
+          ∷ 12 ∷ 0 ∷ 10 ∷ 0 ∷ 0 ∷ 0 ∷ 0 ∷ 0
+          ∷ 4 ∷ 0 ∷ 5 ∷ 7 ∷ 4 ∷ 4294967295 ∷ 0 ∷ 0
+          ∷ [];
+      ledger = entry 14 4 ∷ entry 30 2 ∷ [];
+    }
+
+unfoldable pub grown : Run ours 32 grownState
+unfolding regrantBy arenaGate requestGate sound chunksOf walked walkFrom walk meet lowest joined written write header enter strike
+grown = play shortened (call (resize 14 3) ∷ []) (tt, tt)
+
+-- the first resize is refused with 8, both moves are done, and the last resize keeps the block's number
+pub halves-answers : answers grown ≡ answers stored ++ record { code = 8; values = 0 ∷ 0 ∷ [] } ∷ success (18 ∷ 6 ∷ []) ∷ success (14 ∷ 2 ∷ []) ∷ success (14 ∷ 4 ∷ []) ∷ []
+unfolding startOn allocBy regrantBy arenaGate requestGate sound chunksOf walked walkFrom walk meet lowest written write header held stored halves shortened grown
 halves-answers = refl

@@ -17,7 +17,7 @@ use Rattle.arena.specs.Rules.{taken, cut, joined, copied, released}
 use Rattle.arena.specs.Inside.Places.{Needed}
 use Rattle.arena.proofs.Blocks.{BlockAt}
 use Rattle.arena.proofs.Copying.{length-copied, copied-other, copied-there}
-use Rattle.arena.proofs.Relocating.{Relocated}
+use Rattle.arena.proofs.Relocating.{OldStands}
 use Rattle.ledger.specs.Ledger.{Entry, Ledger, enter, strike, Listed, ends}
 use Rattle.ledger.proofs.Blocks.{blocksFrom}
 use Rattle.ledger.proofs.Entries.{Laid, enter-listed, listed-enter, listed-struck, laid-listed, laid-order, laid-same, strike-enter}
@@ -52,7 +52,7 @@ module _ (n : ℕ) (a : List ℕ) (ledger : Ledger) (g : Agrees n a ledger)
   before-copy : (e : Entry) → Listed both e → (i : ℕ) → i < e .granted → getD (written granted a) (e .block + i) 0 ≡ getD a (e .block + i) 0
   before-copy e l = written-listed granted a (granted-lawful n a ledger g before t after needed same nd enough .sizes) e (rw both-lists at l)
 
-  module _ (r : Relocated copiedWords b s granted) where
+  module _ (r : OldStands copiedWords b s granted) where
     both-agree : Agrees n copiedWords both
     both-agree =
         record {

@@ -33,8 +33,8 @@ refused-when : (a : List ℕ) (block zero large room stuck : Type 0) → sound a
     → (answer .code ≡ number last) ↔ Grounds a block zero large room stuck last → Done answer ↔ ((why : Reason) → Grounds a block zero large room stuck why → ⊥)
     → (room → TooShort) → (stuck → TooShort) → (TooShort → Grounds a block zero large room stuck last)
     → RefusedWhen last TooShort answer
-refused-when a block zero large room stuck e b z m last TooShort answer refused done full held short =
-    let only = only-last a block zero large room stuck e b z m TooShort full held in
+refused-when a block zero large room stuck e b z m last TooShort answer refused done no-room would-move short =
+    let only = only-last a block zero large room stuck e b z m TooShort no-room would-move in
     record {
       refused = (λ q. only last (refused .0 q), λ h. refused .1 (short h));
       done = (λ q h. done .0 q last (short h), λ enough. done .1 (λ why h. enough (only why h)));

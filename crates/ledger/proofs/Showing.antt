@@ -15,21 +15,19 @@ use Rattle.layout.specs.declared.Reason.the-variants.{Length, Damaged, NotABloc
 use Rattle.layout.proofs.Reasons.{number-positive}
 use Rattle.arena.specs.Answers.{Answer, Outcome, success}
 use Rattle.arena.specs.Rules.{splits, taken, freeWords, widest, liveBlocks, freeChunks}
-use Rattle.arena.specs.Calls.{freeOn, relocateOn, sizeOn, viewOn, reportOn}
-use Rattle.arena.proofs.Gates.{sound-lawful, sound-gate, request-needed}
+use Rattle.arena.specs.Calls.{freeOn, sizeOn, viewOn, reportOn}
+use Rattle.arena.proofs.Gates.{sound-lawful, sound-gate}
 use Rattle.arena.proofs.Blocks.{NoBlock, block-held}
-use Rattle.arena.proofs.Causes.{RelocateRefused}
 use Rattle.arena.proofs.Cases.{Case, refuses, does, Allots, allots, alloc-case}
 use Rattle.arena.proofs.Regranting.{Resizes, shrinks, grows, Relocates, moves, Regrants, in-place, elsewhere, resize-case, relocate-case, realloc-case}
-use Rattle.arena.proofs.Corners.{view-empty, resize-stays}
+use Rattle.arena.proofs.Corners.{view-empty, resize-stays, relocate-moves}
 use Rattle.arena.proofs.Reasons.{arena-refused, start-refused, alloc-refused, free-refused, resize-refused, relocate-refused, realloc-refused, size-refused, report-refused}
 use Rattle.ledger.specs.Events.{Call, start, alloc, free, resize, relocate, realloc, size, view, report, ours}
 use Rattle.ledger.specs.Ledger.{Entry, Ledger, told, Done, Listed, Unlisted, begins, ends, heldWords}
-use Rattle.ledger.specs.Demands.{HasNeed, freeWordsIn, Tells}
+use Rattle.ledger.specs.Demands.{LawfulRequest, HasNeed, freeWordsIn, Tells}
 use Rattle.ledger.proofs.Blocks.{blocks-words, blocks-count}
 use Rattle.ledger.proofs.Entries.{listed-at, laid-listed, laid-above}
-use Rattle.ledger.proofs.Agreeing.{Agrees, chunked-block, agrees-laid, agrees-lawful, listed-chunked, block-listed, unlisted-block}
-use Rattle.ledger.proofs.Going.{granted-fresh}
+use Rattle.ledger.proofs.Agreeing.{Agrees, chunked-block, agrees-laid, agrees-lawful, listed-chunked, unlisted-block}
 
 -- ---- the reasons that an arena itself gives
 
@@ -46,12 +44,12 @@ gate-refused a (size b) = arena-refused a _ _ _ _ _ (λ why. size-refused a b wh
 gate-refused a (view b) = (λ e. absurd (omega arith), λ e. absurd (omega arith))
 gate-refused a report = arena-refused a _ _ _ _ _ (λ why. report-refused a why .0)
 
--- a call that would move its block is a resize
-would-move : (a : List ℕ) (c : Call) → ours c a .answer .code ≡ number WouldMove → (b : ℕ) × (w : ℕ) × (c ≡ resize b w)
+-- a call that would move its block is a resize, and to a number of words that may be asked for
+would-move : (a : List ℕ) (c : Call) → ours c a .answer .code ≡ number WouldMove → (b : ℕ) × (w : ℕ) × (c ≡ resize b w) × LawfulRequest (length a) w
 would-move a start e = absurd (omega (arith, ap number (start-refused a WouldMove .0 e .0)))
 would-move a (alloc w) e = absurd (alloc-refused a w WouldMove .0 e .1)
 would-move a (free b) e = absurd (free-refused a b WouldMove .0 e .1)
-would-move a (resize b w) e = (b, w, refl)
+would-move a (resize b w) e = (b, w, refl, resize-refused a b w WouldMove .0 e .1 .0)
 would-move a (relocate b w) e = absurd (relocate-refused a b w WouldMove .0 e .1)
 would-move a (realloc b w) e = absurd (realloc-refused a b w WouldMove .0 e .1)
 would-move a (size b) e = absurd (size-refused a b WouldMove .0 e .1)
@@ -87,7 +85,7 @@ relocate-grants a b w values after (moves e r pre s post is before t behind gap 
 
 realloc-grants : (a : List ℕ) (b w : ℕ) (values after : List ℕ) → Regrants a b w values after → HasNeed w (headerWords + told (success values) .granted)
 realloc-grants a b w values after (in-place d) = resize-grants a b w values after d
-realloc-grants a b w values after (elsewhere short d) = relocate-grants a b w values after d
+realloc-grants a b w values after (elsewhere d) = relocate-grants a b w values after d
 
 module _ (n : ℕ) (a : List ℕ) (ledger : Ledger) (agrees : Agrees n a ledger) where
   -- ---- where the blocks lie
@@ -132,16 +130,6 @@ module _ (n : ℕ) (a : List ℕ) (ledger : Ledger) (agrees : Agrees n a ledger)
   refused-unlisted : (b : ℕ) {code : ℕ} → (code ≡ number NotABlock) ↔ ((sound a ≡ true) × NoBlock a b) → (code ≡ number NotABlock) ↔ Unlisted ledger b
   refused-unlisted b refused = Iff·trans refused (λ h. unlisted-block n a ledger agrees b .0 (h .1), λ un. (agrees .is-sound, unlisted-block n a ledger agrees b .1 un))
 
-  -- a block that moves has a number that no entry has
-  relocated : (b w : ℕ) → Done (relocateOn a b w .answer) → told (relocateOn a b w .answer) .block ≢ b
-  relocated b w = go (relocate-case a b w)
-    where
-      go : {outcome : Outcome} → Case 2 a (RelocateRefused a b w) (Relocates a b w) outcome → Done (outcome .answer) → told (outcome .answer) .block ≢ b
-      go (refuses why r) e q = omega (arith, number-positive why)
-      go (does (moves e r pre s post is before t behind gap block at-is ks same count shorter)) d q =
-          let needed = request-needed (length a) w (sound-lawful a e) r in
-          granted-fresh n a ledger agrees before t behind (need w) (gap .same) needed (gap .enough) _ (block-listed n a ledger agrees b pre s post is) (sym (sym at-is ∙ q))
-
   pub tells : Tells ours a ledger
   tells =
       record {
@@ -152,9 +140,9 @@ module _ (n : ℕ) (a : List ℕ) (ledger : Ledger) (agrees : Agrees n a ledger)
         resize-grants = λ b w. need-granted w (resize-grants a b w) (resize-case a b w);
         resize-stays = resize-stays a;
         resize-never-full = λ b w e. resize-refused a b w NoRoom .0 e .1;
-        resize-alone = would-move a;
+        only-resize-would-move = would-move a;
         relocate-grants = λ b w. need-granted w (relocate-grants a b w) (relocate-case a b w);
-        relocate-moves = relocated;
+        relocate-moves = relocate-moves a;
         realloc-grants = λ b w. need-granted w (realloc-grants a b w) (realloc-case a b w);
         view-unlisted = λ b un. ap success (view-empty a b .1 (λ e. omega (arith, refused-unlisted b (size-refused a b NotABlock) .1 un)));
         free-known = λ b. refused-unlisted b (free-refused a b NotABlock);

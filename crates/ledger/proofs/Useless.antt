@@ -17,6 +17,7 @@ use Rattle.arena.specs.Spots.{lowest}
 use Rattle.arena.specs.Rules.{joined, copied}
 use Rattle.arena.specs.Calls.{startOn, allocBy, regrantBy, reportOn}
 use Rattle.ledger.specs.Events.{Call, start, alloc, free, resize, relocate, realloc, size, view, report, call, store, Library, ours}
+use Rattle.ledger.specs.Gaps.{RoomShorter}
 use Rattle.ledger.specs.Ledger.{enter, strike, told, Done, begins, ends}
 use Rattle.ledger.specs.Runs.{Allowed, Run, begun, next}
 use Rattle.ledger.specs.Holders.{just, still}
@@ -44,6 +45,15 @@ has-once library room a w l fits =
 in-six : (library : Library) → RoomForAlloc library alloc → Once library (replicate 6 0) 2
 in-six library room = has-once library room (replicate 6 0) 2 refl (omega arith)
 
+-- and a new arena of 16 words
+in-sixteen : (library : Library) → RoomForAlloc library alloc → Once library (replicate 16 0) 2
+in-sixteen library room = has-once library room (replicate 16 0) 2 refl (omega arith)
+
+-- if the library grants enough, the block in the 6 words has room for the words that it has
+own-room : (library : Library) → RoomForAlloc library alloc → Known library
+    → RoomShorter (need 2) 6 (told (library (alloc 2) (library start (replicate 6 0) .words) .answer)) [] → ⊥
+own-room library room known short = let o = in-six library room in omega (arith, short, known 6 _ (o .started) .alloc-grants 2 (o .done))
+
 -- ---- one that refuses everything
 
 -- no call is ever done, for whatever reasons and whatever it writes
@@ -68,7 +78,7 @@ GrantsBlockFour library = (w : ℕ) (a : List ℕ) → Done (library (alloc w) a
 pub grants-block-four : (library : Library) → GrantsBlockFour library → RoomForAlloc library alloc → Known library → Apart library → ⊥
 unfolding enter
 grants-block-four library four room known apart =
-    let o = has-once library room (replicate 16 0) 2 refl (omega arith) in
+    let o = in-sixteen library room in
     let first = library (alloc 2) (library start (replicate 16 0) .words) in
     let second = library (alloc 2) (first .words) in
     let is : told (first .answer) .block ≡ 4 = four 2 _ (o .done) in
@@ -172,7 +182,7 @@ GrantsEverything library = (w : ℕ) (a : List ℕ) → Done (library (alloc w) 
 -- if it keeps the room rule and its arena's length, it grants too much: of 16 words, a request for 2 has 12
 pub grants-everything : (library : Library) → GrantsEverything library → Lengths library → RoomForAlloc library alloc → Known library → ⊥
 grants-everything library all lengths room known =
-    let o = has-once library room (replicate 16 0) 2 refl (omega arith) in
+    let o = in-sixteen library room in
     omega (arith, all 2 _ (o .done), lengths 16 _ (o .started), known 16 _ (o .started) .alloc-grants 2 (o .done))
 
 -- ---- one that never frees
@@ -194,10 +204,7 @@ NeverRegrants library = (b w : ℕ) (a : List ℕ) → Done (library (realloc b 
 -- if it keeps the room rule of alloc and grants enough, it fails that of realloc: a block has room for the words that it has
 pub never-regrants : (library : Library) → NeverRegrants library → RoomForAlloc library alloc → Known library → RoomForRealloc library realloc → ⊥
 never-regrants library refuses room known regrants =
-    let o = in-six library room in
-    let e = told (library (alloc 2) (library start (replicate 6 0) .words) .answer) in
-    let enough = known 6 _ (o .started) .alloc-grants 2 (o .done) in
-    refuses (e .block) 2 _ (regrants 6 _ (o .once) [] [] e refl 2 (omega arith) .done .1 (λ short. omega (arith, short .1, enough)))
+    refuses _ 2 _ (regrants 6 _ (in-six library room .once) [] [] _ refl 2 (omega arith) .done .1 (λ short. own-room library room known (short .1)))
 
 -- ---- one that never resizes, and one that moves a block on a resize
 
@@ -212,11 +219,7 @@ ResizeMoves library = (b w : ℕ) (a : List ℕ) → Done (library (resize b w) 
 -- of a library that keeps the room rules of alloc and resize and grants enough, a resize is done: a block has room for the words that it has
 a-resize : (library : Library) → RoomForAlloc library alloc → Known library → RoomForResize library resize
     → let a = library start (replicate 6 0) .words in let first = library (alloc 2) a in Done (library (resize (told (first .answer) .block) 2) (first .words) .answer)
-a-resize library room known resizes =
-    let o = in-six library room in
-    let e = told (library (alloc 2) (library start (replicate 6 0) .words) .answer) in
-    let enough = known 6 _ (o .started) .alloc-grants 2 (o .done) in
-    resizes 6 _ (o .once) [] [] e refl 2 (omega arith) .done .1 (λ short. omega (arith, short, enough))
+a-resize library room known resizes = resizes 6 _ (in-six library room .once) [] [] _ refl 2 (omega arith) .done .1 (own-room library room known)
 
 -- so it cannot be one that never resizes
 pub never-resizes : (library : Library) → NeverResizes library → RoomForAlloc library alloc → Known library → RoomForResize library resize → ⊥
@@ -227,6 +230,26 @@ pub resize-moves : (library : Library) → ResizeMoves library → RoomForAlloc 
 resize-moves library moves room known resizes =
     let done = a-resize library room known resizes in
     moves _ 2 _ done (known 6 _ (in-six library room .once) .resize-stays _ 2 done)
+
+-- each call is ours, but a resize moves the block where it cannot stay
+abbrev pub resizeReallocates : Library
+resizeReallocates start a = ours start a
+resizeReallocates (alloc w) a = ours (alloc w) a
+resizeReallocates (free b) a = ours (free b) a
+resizeReallocates (resize b w) a = ours (realloc b w) a
+resizeReallocates (relocate b w) a = ours (relocate b w) a
+resizeReallocates (realloc b w) a = ours (realloc b w) a
+resizeReallocates (size b) a = ours (size b) a
+resizeReallocates (view b) a = ours (view b) a
+resizeReallocates report a = ours report a
+
+-- a block is known to stay: of 16 words, block 10 has no room above it, and the resize answers block 4
+pub resize-reallocates : Known resizeReallocates → ⊥
+unfolding startOn allocBy regrantBy arenaGate requestGate sound chunksOf walked walkFrom walk meet lowest joined copied written write header enter strike
+resize-reallocates known =
+    let held : Run resizeReallocates 16 _ = next (next (begun (replicate 16 0) refl refl) (call (alloc 2)) tt) (call (alloc 2)) tt in
+    let stays : _≡_ {A = ℕ} 4 10 = known 16 _ held .resize-stays 10 4 refl in
+    omega arith
 
 -- ---- one that never relocates, and one that leaves the block where it is
 
@@ -242,7 +265,7 @@ RelocateStays library = (b w : ℕ) (a : List ℕ) → Done (library (relocate b
 a-relocate : (library : Library) → RoomForAlloc library alloc → Known library → RoomForRelocate library relocate
     → let a = library start (replicate 16 0) .words in let first = library (alloc 2) a in Done (library (relocate (told (first .answer) .block) 2) (first .words) .answer)
 a-relocate library room known relocates =
-    let o = has-once library room (replicate 16 0) 2 refl (omega arith) in
+    let o = in-sixteen library room in
     let e = told (library (alloc 2) (library start (replicate 16 0) .words) .answer) in
     let small = known 16 _ (o .started) .alloc-grants 2 (o .done) in
     relocates 16 _ (o .once) e (inl refl) 2 (omega arith) .done .1 (λ short. omega (arith, short, small))
@@ -254,9 +277,8 @@ never-relocates library refuses room known relocates = refuses _ 2 _ (a-relocate
 -- nor one that leaves the block where it is: it is known to have a new number
 pub relocate-stays : (library : Library) → RelocateStays library → RoomForAlloc library alloc → Known library → RoomForRelocate library relocate → ⊥
 relocate-stays library stays room known relocates =
-    let o = has-once library room (replicate 16 0) 2 refl (omega arith) in
     let done = a-relocate library room known relocates in
-    known 16 _ (o .once) .relocate-moves _ 2 done (stays _ 2 _ done)
+    known 16 _ (in-sixteen library room .once) .relocate-moves _ 2 done (stays _ 2 _ done)
 
 -- ---- one that hands back words of any number
 

@@ -89,7 +89,7 @@ module _ (library : Library) where
       (n : ℕ) (s : State) → Run library n s → (below above : Ledger) (e : Entry) → s .ledger ≡ below ++ e ∷ above → (w : ℕ) → LawfulRequest n w
       → RefusedWhen NoRoom (EachShorter (need w) (gaps n (s .ledger)) × RoomShorter (need w) n e above) (library (reallocs (e .block) w) (s .words) .answer)
 
-  -- item 1: a lawful resize of a ledger block would move it exactly when that block with its header, joined with the gap right above it, is too short
+  -- item 1: a lawful resize of a ledger block is refused with WouldMove exactly when that block with its header, joined with the gap right above it, is too short
   abbrev pub RoomForResize : (ℕ → ℕ → Call) → Type 0
   RoomForResize resizes =
       (n : ℕ) (s : State) → Run library n s → (below above : Ledger) (e : Entry) → s .ledger ≡ below ++ e ∷ above → (w : ℕ) → LawfulRequest n w
@@ -121,7 +121,7 @@ module _ (library : Library) where
     pub resize-grants : (b : ℕ) → GrantsNeed (resize b) a
     pub resize-stays : (b w : ℕ) → Done (library (resize b w) a .answer) → told (library (resize b w) a .answer) .block ≡ b
     pub resize-never-full : (b w : ℕ) → library (resize b w) a .answer .code ≢ number NoRoom
-    pub resize-alone : (c : Call) → library c a .answer .code ≡ number WouldMove → (b : ℕ) × (w : ℕ) × (c ≡ resize b w)
+    pub only-resize-would-move : (c : Call) → library c a .answer .code ≡ number WouldMove → (b : ℕ) × (w : ℕ) × (c ≡ resize b w) × LawfulRequest (length a) w
     pub relocate-known : (w : ℕ) → NeedsBlock (λ b. relocate b w) a ledger
     pub relocate-grants : (b : ℕ) → GrantsNeed (relocate b) a
     pub relocate-moves : (b w : ℕ) → Done (library (relocate b w) a .answer) → told (library (relocate b w) a .answer) .block ≢ b

@@ -98,7 +98,7 @@ module _ (a : List ℕ) where
           granted-fits e pre (live s ∷ []) post s (need n) b (is .same) (omega arith) l (omega arith)
       go values after (in-place (grows e r pre s t post is l m)) =
           granted-fits e pre (live s ∷ free t ∷ []) post (s + t) (need n) b (is .same) (omega arith) m (omega arith)
-      go values after (elsewhere short (moves e r pre s post is before g behind gap block at-is ks same count fewer)) =
+      go values after (elsewhere (moves e r pre s post is before g behind gap block at-is ks same count fewer)) =
           granted-fits e before (free g ∷ []) behind g (need n) block (gap .same) (omega arith) (gap .enough) (omega arith)
 
   -- report answers four numbers, and all fit

@@ -10,7 +10,7 @@ use borrow.Author.Tests.{lt-leb, ne-eqb}
 use Rattle.layout.specs.Numbers.{lawful}
 use Rattle.layout.specs.Reasons.{number}
 use Rattle.layout.specs.declared.Reason.{Reason}
-use Rattle.layout.specs.declared.Reason.the-variants.{Length}
+use Rattle.layout.specs.declared.Reason.the-variants.{Length, WouldMove}
 use Rattle.layout.proofs.Reasons.{number-positive}
 use Rattle.arena.specs.Answers.{refusal}
 use Rattle.arena.proofs.Cases.{start-case, free-case}
@@ -32,6 +32,16 @@ refused-fields (Free b) board = refused-zeros (free-case (lentOf board) b)
 refused-fields (Realloc b n) board = realloc-refused-zeros (lentOf board) b n
 refused-fields Report board = report-refused-zeros (lentOf board)
 refused-fields Malformed board = λ refused. refl
+
+-- no request is answered 8: no line asks for a resize
+pub never-would-move : (request : Request) (board : Board) → outcomeOf request board .answer .code ≢ number WouldMove
+unfolding outcomeOf
+never-would-move (Start n) board e = omega (arith, ap number (start-refused (lentFor n board) WouldMove .0 e .0))
+never-would-move (Alloc n) board e = alloc-refused (lentOf board) n WouldMove .0 e .1
+never-would-move (Free b) board e = free-refused (lentOf board) b WouldMove .0 e .1
+never-would-move (Realloc b n) board e = realloc-refused (lentOf board) b n WouldMove .0 e .1
+never-would-move Report board e = report-refused (lentOf board) WouldMove .0 e .1
+never-would-move Malformed board e = omega arith
 
 -- a refusal changes nothing: no word of the board, nor how many are lent
 pub refused-keeps : (request : Request) (board : Board) → outcomeOf request board .answer .code ≢ 0 → replied request board .board ≡ board

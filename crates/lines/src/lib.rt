@@ -5,7 +5,6 @@ mod reply;
 mod request;
 
 ghost use mathlib.Core.Path.{_≡_};
-ghost use Prim.Native.Nat.{min};
 ghost use Rattle.lines.specs.Boards.{lending};
 ghost use Rattle.lines.specs.Places.{atStart};
 ghost use Rattle.lines.specs.Pieces.{nothingHeard, ending, boardOf, answerable, HearsAll};
@@ -51,16 +50,6 @@ pub fn nothing_heard() -> Heard
     }
 }
 
-// The smaller of two numbers.
-fn smaller(x: usize, y: usize) -> usize
-    ensures { λ r. ⌜ r ≡ min x y ⌝ }
-{
-    if x < y {
-        return x;
-    }
-    y
-}
-
 // Hears one byte: the end of a line, which is answered, or one more byte of it.
 fn hear_byte(heard: Heard, b: u8, words: &mut [u32], out: &mut [u8]) -> Heard
     requires { ⌜ Ready (now words) (heard .lent) (now out) (heard .written) ⌝ }
@@ -89,11 +78,11 @@ fn hear_byte(heard: Heard, b: u8, words: &mut [u32], out: &mut [u8]) -> Heard
 pub fn hear(last: Heard, words: &mut [u32], piece: &[u8], out: &mut [u8]) -> Heard
     ensures { λ r. ⌜ HearsAll (last .place) (boardOf (now (words .entry)) (last .lent)) (answerable (now (piece .entry)) (now (out .entry))) (now (out .entry)) r (now (words .exit)) (now (out .exit)) ⌝ }
 {
-    let most = smaller(piece.len(), out.len() / LONGEST_REPLY);
+    let most = layout::smaller(piece.len(), out.len() / LONGEST_REPLY);
     let place = last.place;
     let mut heard = Heard {
         place,
-        lent: smaller(last.lent, words.len()),
+        lent: layout::smaller(last.lent, words.len()),
         taken: 0,
         written: 0,
     };

@@ -25,6 +25,7 @@ abbrev pub atPlace : Place → (ℕ → ℕ → Target) → Target
 atPlace Nowhere target = Refused NotABlock
 atPlace (At link chunk) target = target link chunk
 
+-- the block and the need that a call is asked for, or why it is refused: the arena is looked at first, then the block, then the request
 unfoldable pub targetOf : List ℕ → ℕ → ℕ → Target
 targetOf a b n =
     behindGate (arenaGate a)
