@@ -1,4 +1,4 @@
--- A block that stays where it is: the stores of ways 1 and 2 of realloc.
+-- A block that stays where it is: the stores of ways 1 and 2.
 use mathlib.Core.Path.{_≡_, refl, sym, ap, _∙_}
 use mathlib.Core.Bool.{false}
 use mathlib.Core.List.{List, [], _∷_, _++_}

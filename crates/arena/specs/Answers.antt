@@ -1,4 +1,4 @@
--- What a call answers, in document 01's numbers: the code, then the fields in its order.
+-- What a call answers, in the documents' numbers: the code, then the fields in their order.
 use Prim.Native.Nat.{ℕ}
 use mathlib.Core.Path.{_≡_}
 use mathlib.Core.List.{List, [], _∷_}

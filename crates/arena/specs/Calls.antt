@@ -68,7 +68,7 @@ resizeOn a b n = regrantBy WouldMove resized a b n
 abbrev pub relocateOn : List ℕ → ℕ → ℕ → Outcome
 relocateOn a b n = regrantBy NoRoom relocated a b n
 
--- the resize and, if it is refused with WouldMove, the move on the words that it left. That this is realloc is a theorem
+-- the resize and, if it is refused with WouldMove, the move on the words that it left. That this is realloc is the theorem `three-ways`
 abbrev pub resizeElseRelocate : List ℕ → ℕ → ℕ → Outcome
 resizeElseRelocate a b n = let first = resizeOn a b n in cond (eqb (first .answer .code) (number WouldMove)) (relocateOn (first .words) b n) first
 

@@ -195,7 +195,7 @@ NeverFrees library = (b : ℕ) (a : List ℕ) → Done (library (free b) a .answ
 pub never-frees : (library : Library) → NeverFrees library → RoomForAlloc library alloc → Known library → ⊥
 never-frees library refuses room known = refuses _ _ (known 6 _ (in-six library room .once) .free-listed _ (inl refl))
 
--- ---- one that never regrants
+-- ---- one that never does a realloc
 
 -- realloc is never done, for whatever reasons and whatever it writes
 abbrev pub NeverRegrants : Library → Type 0

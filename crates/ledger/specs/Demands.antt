@@ -110,7 +110,7 @@ module _ (library : Library) where
   GrantsNeed calls a =
       (w : ℕ) → Done (library (calls w) a .answer) → HasNeed w (headerWords + told (library (calls w) a .answer) .granted)
 
-  -- what the answers tell of an arena in a run: which blocks there are, how long they are, and what they hold
+  -- what the answers tell of an arena in a run: which blocks there are, how long they are, what they hold, whether they keep their numbers, and which reasons are never given
   pub record Tells (a : List ℕ) (ledger : Ledger) : Type 0 where
     pub never-length : (c : Call) → library c a .answer .code ≢ number Length
     pub never-damaged : (c : Call) → library c a .answer .code ≢ number Damaged
