@@ -5,7 +5,8 @@ import os
 import subprocess
 import sys
 
-DRIVERS = ["teeth", "document_rows", "call_rows", "pages", "random_lines", "damaged_arenas", "full_board"]
+DRIVERS = ["teeth", "document_rows", "call_rows", "small_arenas", "pages", "random_lines", "damaged_arenas",
+           "full_board"]
 
 
 def main():

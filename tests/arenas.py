@@ -55,13 +55,31 @@ def store_imitations(random, words, pieces):
             words[at + 1] = LIVE_MARK
 
 
-def sound_arena(random, length):
-    """A sound arena of this lawful length; what lies in its blocks and gaps is random."""
-    pieces = random_pieces(random, length)
+def long_pieces(random, length):
+    """Two to seven chunks that fill an arena of this lawful length of at least 128 words; every second one is free."""
+    others = range(FIRST_CHUNK + LEAST_CHUNK, length - LEAST_CHUNK + 1, LEAST_CHUNK)
+    bounds = [FIRST_CHUNK, *sorted(random.sample(others, random.randint(1, 6))), length]
+    live = random.randrange(2)
+    return [Piece(start, end - start, at % 2 == live) for at, (start, end) in enumerate(zip(bounds, bounds[1:]))]
+
+
+def arena_of(random, length, pieces):
+    """An arena of these chunks; what lies in its blocks and gaps is random."""
     words = some_words(random, length, length)
     store_imitations(random, words, pieces)
     store_headers(words, pieces)
     return Arena(words, pieces)
+
+
+def sound_arena(random, length):
+    """A sound arena of this lawful length."""
+    return arena_of(random, length, random_pieces(random, length))
+
+
+def long_arena(random):
+    """A sound arena of 128 to 16,384 words in a few chunks, most of them long."""
+    length = 2 * random.randrange(64, 2 ** random.randint(7, 13) + 1)
+    return arena_of(random, length, long_pieces(random, length))
 
 
 def any_arena(random, length):
@@ -161,11 +179,11 @@ def spoiled_arena(random, length):
     return arena
 
 
-def full_arena():
-    """An arena of the most words with the most chunks there can be, all of them live."""
+def full_arena(every_second_free):
+    """An arena of the most words with the most chunks there can be: all live, or the first and every second free."""
     words = [LIVE_MARK, 77, 78, LEAST_CHUNK] * (LONGEST_ARENA // LEAST_CHUNK)
-    last = LONGEST_ARENA - LEAST_CHUNK - 2
-    pieces = [Piece(start, LEAST_CHUNK, True) for start in range(FIRST_CHUNK, last, LEAST_CHUNK)]
-    pieces.append(Piece(last, LEAST_CHUNK + 2, True))
+    starts = range(FIRST_CHUNK, LONGEST_ARENA - LEAST_CHUNK, LEAST_CHUNK)
+    pieces = [Piece(start, LEAST_CHUNK, at % 2 == 1 or not every_second_free) for at, start in enumerate(starts)]
+    pieces[-1] = pieces[-1]._replace(size=LEAST_CHUNK + 2)
     store_headers(words, pieces)
     return Arena(words, pieces)

@@ -1,9 +1,14 @@
-"""Holds the program `cases` and the model to rows of resize and of the move, worked out by hand with all words."""
+"""Holds the program `cases` and the model to rows of resize, move and realloc, worked out by hand with all words."""
 
 import driver
 import model
 from cases import REALLOC, RELOCATE, RESIZE, Case
 from comparing import run_rows
+
+# Arenas with which more than one function of rows begins.
+BESIDE_FREE = "18 12 | 10 live 1004 1005 1006 1007 1008 1009 1010 1011 | 6 0 1014 1015 1016 1017"
+BELOW_TWO = "22 2 | 8 0 1004 1005 1006 1007 1008 1009 | 4 live 1012 1013 | 8 live 1016 1017 1018 1019 1020 1021"
+SHORT_GAP = "16 8 | 6 live 1004 1005 1006 1007 | 4 0 1010 1011 | 4 live 1014 1015"
 
 
 def words(text):
@@ -19,6 +24,11 @@ def done(call, block, asked, before, fields, after):
 def refused(call, block, asked, before, code):
     """A case that is refused: its numbers are 0, and every word stays."""
     return Case(call, block, asked, words(before)), model.Answer(code, (0, 0), [], words(before))
+
+
+def counted(first, last):
+    """The words of these numbers, each 1000 more than its number, as they are written here."""
+    return " ".join(str(1000 + at) for at in range(first, last + 1))
 
 
 def live_neighbour_rows():
@@ -46,35 +56,66 @@ def short_neighbour_rows():
     yield done(REALLOC, 8, 6, before, (8, 6), grown)
 
 
+def passed_neighbour_rows():
+    """A free chunk after the block is too short for 7 words, and the block moves to a gap that holds them."""
+    before = ("24 2 | 10 16 1004 1005 1006 1007 1008 1009 1010 1011 | 4 live 1014 1015 | 4 0 1018 1019"
+              " | 4 live 1022 1023")
+    moved = ("24 12 | 10 live 1014 1015 1006 1007 1008 1009 1010 1011 | 8 0 1014 1015 4 0 1018 1019"
+             " | 4 live 1022 1023")
+    yield refused(RESIZE, 14, 7, before, 8)
+    yield done(RELOCATE, 14, 7, before, (4, 8), moved)
+    yield done(REALLOC, 14, 7, before, (4, 8), moved)
+
+
+def lowest_gap_rows():
+    """A move takes the lowest gap that fits, not the closest fit above; no resize grows into that: it is not next."""
+    before = ("32 2 | 4 10 1004 1005 | 4 live 1008 1009 | 8 26 1012 1013 1014 1015 1016 1017 | 4 live 1020 1021"
+              " | 4 live 1024 1025 | 6 0 1028 1029 1030 1031")
+    moved = ("32 2 | 4 18 1004 1005 | 4 live 1008 1009 | 8 live 1020 1021 1014 1015 1016 1017 | 4 26 1020 1021"
+             " | 4 live 1024 1025 | 6 0 1028 1029 1030 1031")
+    yield refused(RESIZE, 20, 3, before, 8)
+    yield done(RELOCATE, 20, 3, before, (12, 6), moved)
+    yield done(REALLOC, 20, 3, before, (12, 6), moved)
+
+
 def grow_rows():
     """A block grows by part of the free chunk after it, by all of it, or by all of it with two words over."""
-    before = "18 12 | 10 live 1004 1005 1006 1007 1008 1009 1010 1011 | 6 0 1014 1015 1016 1017"
     part = "18 14 | 12 live 1004 1005 1006 1007 1008 1009 1010 1011 6 0 | 4 0 1016 1017"
     full = "18 0 | 16 live 1004 1005 1006 1007 1008 1009 1010 1011 6 0 1014 1015 1016 1017"
-    yield done(RESIZE, 4, 9, before, (4, 10), part)
-    yield done(RESIZE, 4, 10, before, (4, 10), part)
-    yield done(RESIZE, 4, 11, before, (4, 14), full)
-    yield done(RESIZE, 4, 14, before, (4, 14), full)
+    yield done(RESIZE, 4, 9, BESIDE_FREE, (4, 10), part)
+    yield done(RESIZE, 4, 10, BESIDE_FREE, (4, 10), part)
+    yield done(RESIZE, 4, 11, BESIDE_FREE, (4, 14), full)
+    yield done(RESIZE, 4, 14, BESIDE_FREE, (4, 14), full)
 
 
 def cut_rows():
-    """A tail of four is cut off, one of two or none is not; before a free chunk the tail joins it."""
+    """A tail of four is cut off, one of two or none is not; before a free chunk a tail joins it, but for one of two."""
     before = "18 0 | 12 live 1004 1005 1006 1007 1008 1009 1010 1011 1012 1013 | 4 live 1016 1017"
     cut = "18 10 | 8 live 1004 1005 1006 1007 1008 1009 | 4 0 1012 1013 | 4 live 1016 1017"
     yield done(RESIZE, 4, 5, before, (4, 6), cut)
     yield done(RESIZE, 4, 7, before, (4, 10), before)
     yield done(RESIZE, 4, 10, before, (4, 10), before)
-    beside_free = "18 12 | 10 live 1004 1005 1006 1007 1008 1009 1010 1011 | 6 0 1014 1015 1016 1017"
     joined = "18 6 | 4 live 1004 1005 | 12 0 1008 1009 1010 1011 6 0 1014 1015 1016 1017"
-    yield done(RESIZE, 4, 2, beside_free, (4, 2), joined)
+    yield done(RESIZE, 4, 2, BESIDE_FREE, (4, 2), joined)
+    yield done(RESIZE, 4, 5, BESIDE_FREE, (4, 8), BESIDE_FREE)
+
+
+def long_resize_rows():
+    """In the longest arena a block of 8,190 words grows to 12,000, is cut to 100, or kept, beside a free chunk."""
+    before = f"16384 8194 | 8192 live {counted(4, 8193)} | 8190 0 {counted(8196, 16383)}"
+    grown = (f"16384 12004 | 12002 live {counted(4, 8193)} 8190 0 {counted(8196, 12003)}"
+             f" | 4380 0 {counted(12006, 16383)}")
+    joined = f"16384 104 | 102 live {counted(4, 103)} | 16280 0 {counted(106, 8193)} 8190 0 {counted(8196, 16383)}"
+    yield done(RESIZE, 4, 12000, before, (4, 12000), grown)
+    yield done(RESIZE, 4, 100, before, (4, 100), joined)
+    yield done(RESIZE, 4, 8187, before, (4, 8190), before)
 
 
 def shorter_move_rows():
     """A move to a shorter block copies that many words: the size after them, another's or the old one's, stays."""
-    before = "22 2 | 8 0 1004 1005 1006 1007 1008 1009 | 4 live 1012 1013 | 8 live 1016 1017 1018 1019 1020 1021"
     after = "22 2 | 4 14 1004 1005 | 4 live 1016 1017 | 4 live 1012 1013 | 8 0 1016 1017 1018 1019 1020 1021"
-    yield done(RELOCATE, 16, 2, before, (8, 2), after)
-    yield done(RELOCATE, 16, 1, before, (8, 2), after)
+    yield done(RELOCATE, 16, 2, BELOW_TWO, (8, 2), after)
+    yield done(RELOCATE, 16, 1, BELOW_TWO, (8, 2), after)
     below_old = ("24 2 | 10 0 1004 1005 1006 1007 1008 1009 1010 1011 | 8 live 1014 1015 1016 1017 1018 1019"
                  " | 4 live 1022 1023")
     after_old = ("24 2 | 4 12 1004 1005 | 6 live 1014 1015 1016 1017 | 8 0 1014 1015 1016 1017 1018 1019"
@@ -82,12 +123,26 @@ def shorter_move_rows():
     yield done(RELOCATE, 14, 4, below_old, (8, 4), after_old)
 
 
+def long_move_rows():
+    """A block of 8,188 words moves to one of 8,190 with all its words, or to one of 4,000 with as many."""
+    old = counted(8196, 16383)
+    before = f"16384 2 | 8192 0 {counted(4, 8193)} | 8190 live {old}"
+    whole = f"16384 8194 | 8192 live {old} 9192 9193 | 8190 0 {old}"
+    shorter = f"16384 2 | 4190 8194 {counted(4, 4191)} | 4002 live {counted(8196, 12195)} | 8190 0 {old}"
+    yield refused(RESIZE, 8196, 8189, before, 8)
+    yield done(RELOCATE, 8196, 8189, before, (4, 8190), whole)
+    yield done(REALLOC, 8196, 8189, before, (4, 8190), whole)
+    yield done(RELOCATE, 8196, 4000, before, (4194, 4000), shorter)
+
+
 def equal_move_rows():
-    """A move to a block as long copies all words, however few were asked for."""
-    before = "22 2 | 8 0 1004 1005 1006 1007 1008 1009 | 4 live 1012 1013 | 8 live 1016 1017 1018 1019 1020 1021"
+    """A move to a block as long copies all words, however few were asked for; the old words join the gap below them."""
     after = "22 14 | 8 live 1016 1017 1018 1019 1020 1021 | 4 live 1012 1013 | 8 0 1016 1017 1018 1019 1020 1021"
-    yield done(RELOCATE, 16, 3, before, (4, 6), after)
-    yield done(RELOCATE, 16, 6, before, (4, 6), after)
+    yield done(RELOCATE, 16, 3, BELOW_TWO, (4, 6), after)
+    yield done(RELOCATE, 16, 6, BELOW_TWO, (4, 6), after)
+    between_free = "22 2 | 4 12 1004 1005 | 6 live 1008 1009 1010 1011 | 6 0 1014 1015 1016 1017 | 4 live 1020 1021"
+    joined = "22 2 | 10 0 1004 1005 6 live 1008 1009 1010 1011 | 6 live 1008 1009 1010 1011 | 4 live 1020 1021"
+    yield done(RELOCATE, 8, 4, between_free, (14, 4), joined)
 
 
 def gap_above_rows():
@@ -122,14 +177,13 @@ def swallowed_header_rows():
 
 def refused_move_rows():
     """A move lacks room where no gap holds the need, though the block could grow, or has that many words already."""
-    before = "16 8 | 6 live 1004 1005 1006 1007 | 4 0 1010 1011 | 4 live 1014 1015"
     grown = "16 0 | 10 live 1004 1005 1006 1007 4 0 1010 1011 | 4 live 1014 1015"
     moved = "16 2 | 6 0 1004 1005 1006 1007 | 4 live 1004 1005 | 4 live 1014 1015"
-    yield refused(RELOCATE, 4, 6, before, 6)
-    yield done(RESIZE, 4, 6, before, (4, 8), grown)
-    yield refused(RELOCATE, 4, 4, before, 6)
-    yield done(RESIZE, 4, 4, before, (4, 4), before)
-    yield done(RELOCATE, 4, 2, before, (10, 2), moved)
+    yield refused(RELOCATE, 4, 6, SHORT_GAP, 6)
+    yield done(RESIZE, 4, 6, SHORT_GAP, (4, 8), grown)
+    yield refused(RELOCATE, 4, 4, SHORT_GAP, 6)
+    yield done(RESIZE, 4, 4, SHORT_GAP, (4, 4), SHORT_GAP)
+    yield done(RELOCATE, 4, 2, SHORT_GAP, (10, 2), moved)
     full = "12 0 | 6 live 1004 1005 1006 1007 | 4 live 1010 1011"
     yield refused(RELOCATE, 4, 1, full, 6)
     yield done(RESIZE, 4, 1, full, (4, 4), full)
@@ -137,17 +191,19 @@ def refused_move_rows():
 
 def order_rows():
     """The lowest number that applies is given, and 8 comes after 5: no request above N-4 is told to move."""
-    sound = "16 8 | 6 live 1004 1005 1006 1007 | 4 0 1010 1011 | 4 live 1014 1015"
     damaged = "16 0 | 6 live 1004 1005 1006 1007 | 4 0 1010 1011 | 4 live 1014 1015"
     odd = "15 8 | 6 live 1004 1005 1006 1007 | 4 0 1010 1011 | 3 live 1014"
     imitated = "16 0 | 10 live 1004 1005 4 live 1008 1009 1010 1011 | 4 live 1014 1015"
-    for call, last in ((RESIZE, 8), (RELOCATE, 6)):
-        yield refused(call, 4, 12, sound, last)
-        yield refused(call, 4, 13, sound, 5)
-        yield refused(call, 4, 4294967295, sound, 5)
-        yield refused(call, 4, 0, sound, 4)
-        yield refused(call, 6, 0, sound, 3)
-        yield refused(call, 10, 13, sound, 3)
+    for call, last in ((RESIZE, 8), (RELOCATE, 6), (REALLOC, 6)):
+        yield refused(call, 4, 12, SHORT_GAP, last)
+        yield refused(call, 4, 13, SHORT_GAP, 5)
+        yield refused(call, 4, 4294967295, SHORT_GAP, 5)
+        yield refused(call, 4, 65540, SHORT_GAP, 5)
+        yield refused(call, 65540, 4, SHORT_GAP, 3)
+        yield refused(call, 0, 4, SHORT_GAP, 3)
+        yield refused(call, 4, 0, SHORT_GAP, 4)
+        yield refused(call, 6, 0, SHORT_GAP, 3)
+        yield refused(call, 10, 13, SHORT_GAP, 3)
         yield refused(call, 8, 1, imitated, 3)
         yield refused(call, 6, 0, damaged, 2)
         yield refused(call, 4, 4, damaged, 2)
@@ -155,14 +211,15 @@ def order_rows():
         yield refused(call, 4, 4, odd, 1)
 
 
-ROWS = [live_neighbour_rows, short_neighbour_rows, grow_rows, cut_rows, shorter_move_rows, equal_move_rows,
-        gap_above_rows, swallowed_header_rows, refused_move_rows, order_rows]
+ROWS = [live_neighbour_rows, short_neighbour_rows, passed_neighbour_rows, lowest_gap_rows, grow_rows, cut_rows,
+        long_resize_rows, shorter_move_rows, long_move_rows, equal_move_rows, gap_above_rows, swallowed_header_rows,
+        refused_move_rows, order_rows]
 
 
 def compare(chosen):
     """Every row through the model and through the program; the last line counts the rows."""
     count = run_rows(chosen.cases, [row for rows in ROWS for row in rows()])
-    return f"{count} rows of resize and of the move compared with all their words"
+    return f"{count} rows of resize, the move and realloc compared with all their words"
 
 
 if __name__ == "__main__":

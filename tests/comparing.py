@@ -130,6 +130,9 @@ def run_cases(command, asked, answers, rest=b""):
 def run_rows(command, rows):
     """Holds the model and the program to rows of case and answer, and gives how many they are."""
     asked, answers = zip(*rows)
-    compare_answers(asked, answers, b"".join(cases.reply_bytes(cases.answer_to(case)) for case in asked))
+    try:
+        compare_answers(asked, answers, b"".join(cases.reply_bytes(cases.answer_to(case)) for case in asked))
+    except Difference as found:
+        raise Difference(f"the model, not the program: {found}", found.text, found.expected) from found
     run_cases(command, asked, answers)
     return len(rows)

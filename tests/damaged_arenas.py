@@ -33,6 +33,9 @@ WAYS = {"alloc": (-1, 0), "free": (-1, 0, 1),
 # And for a move every place of the gap that it takes, seen from the old block, and how much of it is taken.
 GAPS = [(place, much) for place in ("right below", "right above", "elsewhere") for much in ("whole", "in part")]
 
+# And how many words it copies, by the bits of that number: from 2 words to 1,024 and more.
+COPIED = [("words copied", bits) for bits in range(2, 12)]
+
 
 def length_for(random, number):
     """Every length from 0 to 95 in turn, the lawful ones more often; now and then a longer one, up to 16,400."""
@@ -84,23 +87,35 @@ def asked_for(random, arena):
 
 
 def cases_for(random, number):
-    """A call with its numbers and its arena; a realloc comes together with the two calls that it is made of."""
+    """A call with its numbers and its arena, or three calls together."""
     arena = arena_for(random, number)
     call = random.choice([cases.START, cases.REPORT, cases.SIZE, cases.VIEW, cases.VIEW_MUT, 0]
                          + [cases.ALLOC, cases.FREE] * 3 + [cases.REALLOC] * 6)
     if call == 0:
         call = random.choice([*NO_CALLS, cases.ALLOC, cases.REALLOC])
+    return cases_on(random, arena, call)
+
+
+def cases_on(random, arena, call):
+    """The call on this arena with some numbers; a realloc comes together with the two calls that it is made of."""
     block, asked = block_for(random, arena), asked_for(random, arena)
     calls = cases.TOGETHER if call == cases.REALLOC else [call]
-    return [cases.Case(call, block, asked, arena.words) for call in calls]
+    return [cases.Case(each, block, asked, arena.words) for each in calls]
+
+
+def long_cases(random, count):
+    """The three calls on so many arenas of long blocks and gaps: some moves copy hundreds of words, some thousands."""
+    for _ in range(count):
+        yield from cases_on(random, arenas.long_arena(random), cases.REALLOC)
 
 
 def full_cases(random):
-    """Every call on an arena with as many chunks as there can be, for the first block, the last and others."""
-    arena = arenas.full_arena()
-    for piece in [arena.chunks[0], arena.chunks[-1], *random.sample(arena.chunks, 4)]:
-        for call in cases.CALLS:
-            yield cases.Case(call, piece.start + 2, random.randint(1, 6), arena.words)
+    """Every call on arenas with as many chunks as there can be, for the first block, the last and others."""
+    for arena in (arenas.full_arena(False), arenas.full_arena(True)):
+        live = [piece for piece in arena.chunks if piece.live]
+        for asked, piece in enumerate([live[0], live[-1], *random.sample(live, 4)], 1):
+            for call in cases.CALLS:
+                yield cases.Case(call, piece.start + 2, asked, arena.words)
 
 
 def way_of(case, answer):
@@ -118,12 +133,17 @@ def way_of(case, answer):
 def gap_taken(case, answer):
     """Which gap a move took, seen from the old block, and how much of it."""
     block, granted = answer.fields
-    below = case.block - model.HEADER
-    above = below + case.words[below]
+    start = case.block - model.HEADER
+    end = start + case.words[start]
     gaps = model.gaps_between(model.live_chunks(case.words), len(case.words))
     gap, room = [(gap, room) for gap, room in gaps if gap < block < gap + room][0]
-    place = "right below" if gap + room == below else "right above" if gap == above else "elsewhere"
+    place = "right below" if gap + room == start else "right above" if gap == end else "elsewhere"
     return place, "whole" if room == granted + model.HEADER else "in part"
+
+
+def words_copied(case, answer):
+    """How many words a move copied: as many as the shorter of the two blocks has."""
+    return min(model.size(case.words, case.block).fields[0], answer.fields[1])
 
 
 def met_by(case, answer):
@@ -137,6 +157,7 @@ def met_by(case, answer):
         yield way_of(case, answer), "free chunks", free_chunks[1] - free_chunks[0]
     if case.call == cases.RELOCATE and answer.code == model.DONE:
         yield gap_taken(case, answer)
+        yield "words copied", words_copied(case, answer).bit_length()
 
 
 def met_together(asked, answers):
@@ -159,7 +180,7 @@ def wanted():
     codes = [(name, "code", code) for name, codes in CODES.items() for code in codes]
     ways = [(way, "free chunks", change) for way, changes in WAYS.items() for change in changes]
     together = [("together", codes) for codes in cases.CODES_TOGETHER]
-    return [*codes, *ways, *together, *GAPS, *PARTS]
+    return [*codes, *ways, *together, *GAPS, *COPIED, *PARTS]
 
 
 def compare(chosen):
@@ -172,6 +193,7 @@ def compare(chosen):
         numbers = range(done, done + min(AT_ONCE, max(chosen.count // 10, 1)))
         asked = [case for number in numbers for case in cases_for(random, number)]
         asked += full_cases(random) if batch == 0 else []
+        asked += long_cases(random, len(numbers) // 50)
         answers = [cases.answer_to(case) for case in asked]
         run_cases(chosen.cases, asked, answers, unfinished(random, batch))
         for case, answer in zip(asked, answers):

@@ -32,6 +32,20 @@ def cut_tail_of_two():
     model.taken_from = lambda room, need: need if room - need >= 2 else room
 
 
+def cut_tail_in_place():
+    """Cuts off a tail of two words as a chunk, but only of a block that stays where it stands."""
+    true_stayed, true_taken = model.stayed, model.taken_from
+
+    def stayed(words, block, asked):
+        cut_tail_of_two()
+        try:
+            return true_stayed(words, block, asked)
+        finally:
+            model.taken_from = true_taken
+
+    model.stayed = stayed
+
+
 def believe_words_before():
     """Believes the two words before b, and not the walk."""
     true_size = model.size_rule
@@ -101,6 +115,11 @@ def copy_words_asked():
     copy_in_move(lambda granted, new_granted, asked: min(granted, asked))
 
 
+def copy_count_of_a_byte():
+    """Counts the words to copy in a move in one byte."""
+    copy_in_move(lambda granted, new_granted, asked: min(granted, new_granted) % 256)
+
+
 def stay_in_move():
     """Leaves the block of a move where it is, if it can stay there."""
     true_move = model.move_rule
@@ -156,10 +175,11 @@ def store_size_early():
     refuse_resize(wrongly)
 
 
-RULE_FAULTS = {"tail": cut_tail_of_two, "believe": believe_words_before, "clear": clear_swallowed_header,
-               "early": free_before_move, "less": copy_one_word_less, "all": copy_all_old_words,
-               "asked": copy_words_asked, "stays": stay_in_move, "moves": move_in_resize, "never": never_move,
-               "order": would_move_first, "lacks": no_room_to_resize, "stores": store_size_early}
+RULE_FAULTS = {"tail": cut_tail_of_two, "cut": cut_tail_in_place, "believe": believe_words_before,
+               "clear": clear_swallowed_header, "early": free_before_move, "less": copy_one_word_less,
+               "all": copy_all_old_words, "asked": copy_words_asked, "byte": copy_count_of_a_byte,
+               "stays": stay_in_move, "moves": move_in_resize, "never": never_move, "order": would_move_first,
+               "lacks": no_room_to_resize, "stores": store_size_early}
 
 
 def board_replies():
