@@ -6,9 +6,11 @@ use mathlib.Core.List.{List, [], _∷_, _++_}
 use Prim.Native.Nat.{ℕ, _+_, _%_, _≤_, _<_}
 use native.Mathlib.Omega.{arith}
 use lib.ListN.{length, getD, set}
-use Rattle.layout.specs.Numbers.{firstChunk, leastSize, greatestLength}
+use Rattle.layout.specs.Numbers.{leastSize, greatestLength}
 use Rattle.layout.specs.Chunks.{Chunk, free, live, total, firstFree, write, written}
-use Rattle.layout.proofs.Holds.{Sizes, Spaced, holds-split, sizes-split, total-append, total-even, firstFree-within}
+use Rattle.layout.specs.Links.{freeList, Chain}
+use Rattle.layout.proofs.Holds.{Sizes, Spaced, sizes-split, total-append, total-even, firstFree-within}
+use Rattle.layout.proofs.Chain.{chain-first}
 use Rattle.layout.proofs.Written.{Arena}
 use Rattle.layout.proofs.Replace.{replaced}
 use Rattle.arena.specs.Rules.{join}
@@ -61,14 +63,14 @@ NextJoins a s post chunk size next =
     (leastSize ≤ getD a next 0) × (next + getD a next 0 ≤ length a) × HasRoom s post chunk (record { words = size + getD a next 0; next = getD a (next + 1) 0 })
 
 module _ (a : List ℕ) (pre : List Chunk) (s : ℕ) (link chunk : ℕ) where
-  next-joins : (post : List Chunk) → Reads a pre (live s) post link chunk → chunk ≡ firstChunk + total pre
+  next-joins : (post : List Chunk) → Reads a pre (live s) post link chunk
       → firstFree (chunk + s) post 0 ≡ chunk + s → NextJoins a s post chunk s (chunk + s)
-  next-joins [] r at e = absurd (omega arith)
-  next-joins (free t ∷ ks) r at e =
-      let h = holds-split a firstChunk pre (live s ∷ free t ∷ ks) 0 chunk at (r .arena .linked .1) .1 in
+  next-joins [] r e = absurd (omega arith)
+  next-joins (free t ∷ ks) r e =
+      let h : Chain a link ((chunk + s, t) ∷ freeList (chunk + s + t) ks) = r .leads in
       let z : (t % 2 ≡ 0) × (leastSize ≤ t) × Sizes ks = r .sizes-after in
-      rw (h .2 .0, h .2 .1) (z .1, omega arith, record { words-are = refl; next-is = ap (λ (c : ℕ). firstFree c ks 0) (omega arith) })
-  next-joins (live t ∷ ks) r at e =
+      rw (h .1, chain-first a (chunk + s + 1) (chunk + s + t) ks (h .4)) (z .1, omega arith, record { words-are = refl; next-is = ap (λ (c : ℕ). firstFree c ks 0) (omega arith) })
+  next-joins (live t ∷ ks) r e =
       let z : (t % 2 ≡ 0) × (leastSize ≤ t) × Sizes ks = r .sizes-after in
       absurd (firstFree-past (chunk + s + t) ks (chunk + s) (omega arith) (omega arith) e)
 
@@ -92,7 +94,7 @@ module _ (a : List ℕ) (pre : List Chunk) (s : ℕ) (post : List Chunk) (link c
   room-beside b =
       let r = reads a pre (live s) post link chunk st in
       let own : size ≡ s = size-is ∙ r .size-is in
-      rw (b, own) (next-joins a pre s link chunk post r (st .at-is) (omega (arith, r .names)))
+      rw (b, own) (next-joins a pre s link chunk post r (omega (arith, r .names)))
 
   pub room-alone : next ≢ chunk + size → HasRoom s post chunk (record { words = size; next = next })
   room-alone n =

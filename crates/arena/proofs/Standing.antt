@@ -1,5 +1,5 @@
 -- A chunk in its place: what the code reads there.
-use mathlib.Core.Path.{_≡_, refl, ap, _∙_}
+use mathlib.Core.Path.{_≡_, refl}
 use mathlib.Core.Bool.{Bool, true}
 use mathlib.Core.List.{List, _∷_, _++_}
 use Prim.Native.Nat.{ℕ, _+_, _%_, _≤_, _<_}
@@ -8,9 +8,10 @@ use lib.ListN.{length, getD}
 use Rattle.layout.specs.Numbers.{firstChunk, listWord, leastSize, greatestLength}
 use Rattle.layout.specs.Chunks.{Chunk, size, total, firstFree, second}
 use Rattle.layout.specs.Walk.{sound, chunksOf}
-use Rattle.layout.specs.Links.{linkAt}
-use Rattle.layout.proofs.Holds.{Sizes, holds-split, sizes-split, total-append, firstFree-append}
-use Rattle.layout.proofs.Linked.{linkAt-below, linkAt-holds}
+use Rattle.layout.specs.Links.{linkAt, freeList, Chain}
+use Rattle.layout.proofs.Holds.{Sizes, holds-split, sizes-split, total-append}
+use Rattle.layout.proofs.Linked.{linkAt-below}
+use Rattle.layout.proofs.Chain.{chain-behind, chain-first}
 use Rattle.layout.proofs.Written.{Arena}
 use Rattle.layout.proofs.Round.{sound-chunks}
 use Rattle.arena.specs.Spots.{Spot, nowhere, at, lowest}
@@ -23,6 +24,7 @@ pub record Reads (a : List ℕ) (pre : List Chunk) (k : Chunk) (post : List Chun
   pub arena : Arena a (pre ++ k ∷ post)
   pub size-is : getD a chunk 0 ≡ size k
   pub second-is : getD a (chunk + 1) 0 ≡ second k (firstFree (chunk + size k) post 0)
+  pub leads : Chain a link (freeList chunk (k ∷ post))
   pub names : getD a link 0 ≡ firstFree chunk (k ∷ post) 0
   pub even : size k % 2 ≡ 0
   pub least : leastSize ≤ size k
@@ -39,15 +41,15 @@ reads a pre k post link chunk s =
     let z = sizes-split pre (k ∷ post) (r .law .sizes) in
     let zk : (size k % 2 ≡ 0) × (leastSize ≤ size k) × Sizes post = z .1 in
     let h = holds-split a firstChunk pre (k ∷ post) 0 chunk (s .at-is) (r .linked .1) in
+    let l : Chain a link (freeList chunk (k ∷ post)) = rw (s .link-is) (chain-behind a pre (k ∷ post) chunk r (s .at-is)) in
     let n : firstChunk + (total pre + (size k + total post)) ≡ length a = simp total-append at (r .law .fills) in
     let b : linkAt listWord firstChunk pre < firstChunk + total pre = linkAt-below listWord firstChunk pre (z .0) (omega arith) in
-    let l : getD a (linkAt listWord firstChunk pre) 0 ≡ firstFree chunk (k ∷ post) 0 =
-    linkAt-holds a listWord firstChunk pre _ (r .linked .0 ∙ firstFree-append firstChunk pre (k ∷ post) 0 chunk (s .at-is), h .0) in
     record {
       arena = r;
       size-is = h .1 .0;
       second-is = h .1 .1;
-      names = ap (λ (i : ℕ). getD a i 0) (s .link-is) ∙ l;
+      leads = l;
+      names = chain-first a link chunk (k ∷ post) l;
       even = zk .0;
       least = zk .1;
       below = omega (arith, s .link-is, s .at-is);

@@ -1,93 +1,121 @@
--- A tally of chunks: what it counts, how large it can be, and how a count goes on.
-use mathlib.Core.Path.{_≡_, refl, sym, _∙_}
+-- The report's counts: how large they can be, and how the two loops come to them.
+use mathlib.Core.Path.{_≡_, refl}
 use mathlib.Core.Bool.{true}
 use mathlib.Core.List.{List, [], _∷_}
-use Prim.Native.Nat.{ℕ, _+_, _≤_, max}
-use native.Mathlib.Nat.{add-zero, zero-add, max-zero, zero-max}
+use Prim.Native.Nat.{ℕ, _+_, _-_, _≤_, max}
 use native.Mathlib.Omega.{arith}
 use lib.ListN.{length}
-use Rattle.layout.specs.Numbers.{firstChunk, listWord, greatestLength}
+use Rattle.layout.specs.Numbers.{firstChunk, listWord, headerWords, greatestLength}
 use Rattle.layout.specs.Chunks.{Chunk, free, live, total}
 use Rattle.layout.specs.Walk.{sound, chunksOf}
+use Rattle.layout.specs.Links.{freeList, Chain}
 use Rattle.layout.proofs.Holds.{Sizes}
+use Rattle.layout.proofs.Chain.{chain}
+use Rattle.layout.proofs.Round.{sound-chunks}
 use Rattle.arena.specs.Rules.{freeWords, widest, liveBlocks, freeChunks}
-use Rattle.arena.specs.Inside.Tallies.{noChunks, withFree, withLive, tallied, Below}
-use Rattle.arena.specs.declared.tally.Tally.{Tally}
-use Rattle.arena.proofs.Passing.{Left, all-left, past-live, past-free}
+use Rattle.arena.specs.Inside.Tallies.{freeTally}
+use Rattle.arena.proofs.Passing.{Left, all-left, past}
 
--- ---- what is counted
+-- ---- no count is more than the words of the chunks counted
 
--- the counts of the rules
-abbrev pub counted : List Chunk → Tally
-counted ks = record { words = freeWords ks; widest = widest ks; blocks = liveBlocks ks; chunks = freeChunks ks }
+pub record Below (n : ℕ) (ks : List Chunk) : Type 0 where
+  pub words-fit : freeWords ks ≤ n
+  pub widest-fits : widest ks ≤ n
+  pub blocks-fit : liveBlocks ks ≤ n
+  pub chunks-fit : freeChunks ks ≤ n
 
--- the chunks of two tallies
-abbrev together : Tally → Tally → Tally
-together t u =
-    record { words = t .words + u .words; widest = max (t .widest) (u .widest); blocks = t .blocks + u .blocks; chunks = t .chunks + u .chunks }
+below : (ks : List Chunk) → Sizes ks → Below (total ks) ks
+below [] z = record { words-fit = omega arith; widest-fits = omega arith; blocks-fit = omega arith; chunks-fit = omega arith }
+below (free s ∷ ks) z = let b = below ks (z .2) in omega arith
+below (live s ∷ ks) z = let b = below ks (z .2) in omega arith
 
-tallied-more : (t : Tally) (ks : List Chunk) → tallied t ks ≡ together t (counted ks)
-unfolding tallied
-tallied-more t [] = simp (add-zero, max-zero)
-tallied-more t (free s ∷ ks) =
-    let w : t .words + s + freeWords ks ≡ t .words + (s + freeWords ks) = omega arith in
-    let m : max (max (t .widest) s) (widest ks) ≡ max (t .widest) (max s (widest ks)) = omega arith in
-    let n : t .chunks + 1 + freeChunks ks ≡ t .chunks + (1 + freeChunks ks) = omega arith in
-    tallied-more (withFree t s) ks ∙ rw (w, m, n)
-tallied-more t (live s ∷ ks) =
-    let b : t .blocks + 1 + liveBlocks ks ≡ t .blocks + (1 + liveBlocks ks) = omega arith in
-    tallied-more (withLive t) ks ∙ rw b
+pub counts-small : (a : List ℕ) → sound a ≡ true → Below greatestLength (chunksOf a)
+counts-small a e =
+    let r = sound-chunks a e .law in
+    let b = below (chunksOf a) (r .sizes) in
+    omega arith
 
-pub tallied-counts : (ks : List Chunk) → tallied noChunks ks ≡ counted ks
-tallied-counts ks = simp (zero-add, zero-max) at (tallied-more noChunks ks)
+-- ---- the free chunks, along their list
 
--- ---- how much is counted: no more than the words passed
+-- what the loop finds in a list
+abbrev wordsIn : List (ℕ × ℕ) → ℕ
+wordsIn [] = 0
+wordsIn ((c, s) ∷ list) = s + wordsIn list
 
-pub below-more : (m n : ℕ) (t : Tally) → Below m t → m ≤ n → Below n t
-below-more m n t b h = omega arith
+abbrev largestIn : List (ℕ × ℕ) → ℕ
+largestIn [] = 0
+largestIn ((c, s) ∷ list) = max (s - headerWords) (largestIn list)
 
-below-live : (n s : ℕ) (t : Tally) → 1 ≤ s → Below n t → Below (n + s) (withLive t)
-below-live n s t h b = omega arith
+words-listed : (c : ℕ) (ks : List Chunk) → wordsIn (freeList c ks) ≡ freeWords ks
+words-listed c [] = refl
+words-listed c (free s ∷ ks) = omega (arith, words-listed (c + s) ks)
+words-listed c (live s ∷ ks) = words-listed (c + s) ks
 
-below-free : (n s : ℕ) (t : Tally) → 1 ≤ s → Below n t → Below (n + s) (withFree t s)
-below-free n s t h b = omega arith
+largest-listed : (c : ℕ) (ks : List Chunk) → largestIn (freeList c ks) ≡ widest ks - headerWords
+largest-listed c [] = refl
+largest-listed c (free s ∷ ks) = omega (arith, largest-listed (c + s) ks)
+largest-listed c (live s ∷ ks) = largest-listed (c + s) ks
 
-tallied-below : (n : ℕ) (t : Tally) (ks : List Chunk) (m : ℕ) → m ≡ n + total ks → Sizes ks → Below n t → Below m (tallied t ks)
-unfolding tallied
-tallied-below n t [] m e z b = below-more n m t b (omega arith)
-tallied-below n t (free s ∷ ks) m e z b = tallied-below (n + s) (withFree t s) ks m (omega arith) (z .2) (below-free n s t (omega arith) b)
-tallied-below n t (live s ∷ ks) m e z b = tallied-below (n + s) (withLive t) ks m (omega arith) (z .2) (below-live n s t (omega arith) b)
+chunks-listed : (c : ℕ) (ks : List Chunk) → length (freeList c ks) ≡ freeChunks ks
+chunks-listed c [] = refl
+chunks-listed c (free s ∷ ks) = omega (arith, chunks-listed (c + s) ks)
+chunks-listed c (live s ∷ ks) = chunks-listed (c + s) ks
 
-none-below : (n : ℕ) → Below n noChunks
-none-below n = omega arith
+-- the loop has yet to follow the links from word `link` on, through `list`
+pub record CountingFree (a : List ℕ) (words largest chunks link : ℕ) (list : List (ℕ × ℕ)) : Type 0 where
+  pub leads : Chain a link list
+  pub all-words : words + wordsIn list ≡ freeWords (chunksOf a)
+  pub all-largest : max largest (largestIn list) ≡ widest (chunksOf a) - headerWords
+  pub all-chunks : chunks + length list ≡ freeChunks (chunksOf a)
+  pub small : Below greatestLength (chunksOf a)
 
-pub tallied-small : (a : List ℕ) → sound a ≡ true → Below greatestLength (tallied noChunks (chunksOf a))
-tallied-small a e =
-    let l = all-left a e in
-    below-more (length a) greatestLength _ (tallied-below firstChunk noChunks (chunksOf a) (length a) (sym (l .fills)) (l .sizes) (none-below firstChunk)) (l .most)
+pub free-begins : (a : List ℕ) → sound a ≡ true → CountingFree a 0 0 0 listWord (freeList firstChunk (chunksOf a))
+free-begins a e =
+    let ks = chunksOf a in
+    record {
+      leads = chain a ks (sound-chunks a e);
+      all-words = omega (arith, words-listed firstChunk ks);
+      all-largest = omega (arith, largest-listed firstChunk ks);
+      all-chunks = omega (arith, chunks-listed firstChunk ks);
+      small = counts-small a e;
+    }
 
--- ---- a count as it goes: `t` counts the chunks before word `chunk`, and `ks` are left
+-- it counts the first of them: `size` and `most` are its words, and the largest request by then
+pub free-goes-on : (a : List ℕ) (words largest chunks link c s : ℕ) (list : List (ℕ × ℕ)) → CountingFree a words largest chunks link ((c, s) ∷ list)
+    → (size most : ℕ) → size ≡ s → most ≡ max largest (s - headerWords) → CountingFree a (words + size) most (chunks + 1) (c + 1) list
+free-goes-on a words largest chunks link c s list g size most e f =
+    record {
+      leads = g .leads .4;
+      all-words = omega (arith, g .all-words);
+      all-largest = omega (arith, g .all-largest);
+      all-chunks = omega (arith, g .all-chunks);
+      small = g .small;
+    }
 
-pub record Counting (a : List ℕ) (t : Tally) (link chunk : ℕ) (ks : List Chunk) : Type 0 where
-  pub left : Left a link chunk ks
-  pub goes : tallied t ks ≡ tallied noChunks (chunksOf a)
-  pub below : Below chunk t
+pub free-ends : (a : List ℕ) (words largest chunks link : ℕ) → CountingFree a words largest chunks link [] → record { words = words; largest = largest; chunks = chunks } ≡ freeTally (chunksOf a)
+free-ends a words largest chunks link g =
+    let w : words ≡ freeWords (chunksOf a) = omega (arith, g .all-words) in
+    let l : largest ≡ widest (chunksOf a) - headerWords = omega (arith, g .all-largest) in
+    let n : chunks ≡ freeChunks (chunksOf a) = omega (arith, g .all-chunks) in
+    rw (w, l, n)
 
-pub count-begins : (a : List ℕ) → sound a ≡ true → Counting a noChunks listWord firstChunk (chunksOf a)
-count-begins a e = record { left = all-left a e; goes = refl; below = none-below firstChunk }
+-- ---- the live blocks, past every chunk
 
-module _ (a : List ℕ) (t : Tally) (link chunk : ℕ) where
-  pub count-past-live : (s : ℕ) (ks : List Chunk) → Counting a t link chunk (live s ∷ ks) → Counting a (withLive t) link (chunk + s) ks
-  unfolding tallied
-  count-past-live s ks g =
-      record { left = past-live a link chunk s ks (g .left); goes = g .goes; below = below-live chunk s t (omega arith) (g .below) }
+pub record CountingLive (a : List ℕ) (blocks chunk : ℕ) (ks : List Chunk) : Type 0 where
+  pub left : Left a chunk ks
+  pub all-blocks : blocks + liveBlocks ks ≡ liveBlocks (chunksOf a)
+  pub small : Below greatestLength (chunksOf a)
 
-  pub count-past-free : (s : ℕ) (ks : List Chunk) → Counting a t link chunk (free s ∷ ks) → Counting a (withFree t s) (chunk + 1) (chunk + s) ks
-  unfolding tallied
-  count-past-free s ks g =
-      record { left = past-free a link chunk s ks (g .left); goes = g .goes; below = below-free chunk s t (omega arith) (g .below) }
+pub live-begins : (a : List ℕ) → sound a ≡ true → CountingLive a 0 firstChunk (chunksOf a)
+live-begins a e = record { left = all-left a e; all-blocks = omega arith; small = counts-small a e }
 
-  pub count-ends : (ks : List Chunk) → Counting a t link chunk ks → length a ≤ chunk → t ≡ tallied noChunks (chunksOf a)
-  unfolding tallied
-  count-ends [] g h = g .goes
-  count-ends (k ∷ ks) g h = absurd (omega arith)
+module _ (a : List ℕ) (blocks chunk : ℕ) where
+  pub live-past-live : (s : ℕ) (ks : List Chunk) → CountingLive a blocks chunk (live s ∷ ks) → CountingLive a (blocks + 1) (chunk + s) ks
+  live-past-live s ks g = record { left = past a chunk (live s) ks (g .left); all-blocks = omega (arith, g .all-blocks); small = g .small }
+
+  pub live-past-free : (s : ℕ) (ks : List Chunk) → CountingLive a blocks chunk (free s ∷ ks) → CountingLive a blocks (chunk + s) ks
+  live-past-free s ks g = record { left = past a chunk (free s) ks (g .left); all-blocks = g .all-blocks; small = g .small }
+
+  pub live-ends : (ks : List Chunk) → CountingLive a blocks chunk ks → length a ≤ chunk → blocks ≡ liveBlocks (chunksOf a)
+  live-ends [] g h = omega (arith, g .all-blocks)
+  live-ends (k ∷ ks) g h = absurd (omega arith)

@@ -183,7 +183,14 @@ pub fn report(a: &[u32]) -> Reported
     if let Gate::Shut(why) = arena {
         return Reported::Refused(why);
     }
-    tally::reported(tally::count(a))
+    let list = tally::count_free(a);
+    let blocks = tally::count_live(a);
+    Reported::Counts {
+        free_words: list.words as u32,
+        largest: list.largest as u32,
+        live_blocks: blocks as u32,
+        free_chunks: list.chunks as u32,
+    }
 }
 
 // A way as the answer of a call that grants; `why` is what the call says where it is shut.

@@ -1,18 +1,16 @@
-// Counting chunks for the report.
-use super::Reported;
+// Counting for the report: the free chunks along their list, the live ones in a pass over all chunks.
 use layout::wide;
 ghost use mathlib.Core.Path.{_≡_};
 ghost use mathlib.Core.Bool.{true};
-ghost use Prim.Native.Nat.{_≤_, max};
-ghost use Rattle.layout.specs.Numbers.{greatestLength};
+ghost use Prim.Native.Nat.{max};
 ghost use Rattle.layout.specs.Walk.{sound, chunksOf};
-ghost use Rattle.arena.specs.Inside.Tallies.{noChunks, withFree, withLive, tallied, Below, reportOf};
+ghost use Rattle.arena.specs.Rules.{liveBlocks};
+ghost use Rattle.arena.specs.Inside.Tallies.{freeTally};
 
-// Chunks counted: the words of the free ones, the size of the widest of them, the live ones, the free ones.
-pub(crate) struct Tally {
+// The free chunks counted: their words, the largest request that one of them holds, how many they are.
+pub(crate) struct FreeTally {
     pub words: usize,
-    pub widest: usize,
-    pub blocks: usize,
+    pub largest: usize,
     pub chunks: usize,
 }
 
@@ -26,65 +24,41 @@ fn larger(x: usize, y: usize) -> usize
     x
 }
 
-// A free chunk of `size` words more.
-fn with_free(t: Tally, size: usize) -> Tally
-    requires { ⌜ Below greatestLength t × (size ≤ greatestLength) ⌝ }
-    ensures { λ r. ⌜ r ≡ withFree t size ⌝ }
-{
-    Tally {
-        words: t.words + size,
-        widest: larger(t.widest, size),
-        blocks: t.blocks,
-        chunks: t.chunks + 1,
-    }
-}
-
-// A live chunk more.
-fn with_live(t: Tally) -> Tally
-    requires { ⌜ Below greatestLength t ⌝ }
-    ensures { λ r. ⌜ r ≡ withLive t ⌝ }
-{
-    Tally {
-        words: t.words,
-        widest: t.widest,
-        blocks: t.blocks + 1,
-        chunks: t.chunks,
-    }
-}
-
-// The chunks of a sound arena, counted in one pass.
-pub(crate) fn count(a: &[u32]) -> Tally
+// The free chunks of a sound arena: follows the links from the list's first word to link 0.
+pub(crate) fn count_free(a: &[u32]) -> FreeTally
     requires { ⌜ sound (now a) ≡ true ⌝ }
-    ensures { λ r. ⌜ r ≡ tallied noChunks (chunksOf (now (a .entry))) ⌝ }
+    ensures { λ r. ⌜ r ≡ freeTally (chunksOf (now (a .entry))) ⌝ }
 {
-    let mut t = Tally {
-        words: 0,
-        widest: 0,
-        blocks: 0,
-        chunks: 0,
-    };
+    let mut words = 0;
+    let mut largest = 0;
+    let mut chunks = 0;
+    let mut chunk = wide(a[layout::LIST_WORD]);
+    while chunk != 0 {
+        let size = wide(a[chunk]);
+        words += size;
+        largest = larger(largest, layout::block_words(size));
+        chunks += 1;
+        chunk = wide(a[chunk + 1]);
+    }
+    FreeTally {
+        words,
+        largest,
+        chunks,
+    }
+}
+
+// The live blocks of a sound arena, which are on no list: passes every chunk.
+pub(crate) fn count_live(a: &[u32]) -> usize
+    requires { ⌜ sound (now a) ≡ true ⌝ }
+    ensures { λ r. ⌜ r ≡ liveBlocks (chunksOf (now (a .entry))) ⌝ }
+{
+    let mut blocks = 0;
     let mut chunk = layout::FIRST_CHUNK;
     while chunk < a.len() {
-        let size = wide(a[chunk]);
         if a[chunk + 1] == layout::LIVE_MARK {
-            t = with_live(t);
-        } else {
-            t = with_free(t, size);
+            blocks += 1;
         }
-        chunk += size;
+        chunk += wide(a[chunk]);
     }
-    t
-}
-
-// The counts as report answers them.
-pub(crate) fn reported(t: Tally) -> Reported
-    requires { ⌜ Below greatestLength t ⌝ }
-    ensures { λ r. ⌜ r ≡ reportOf t ⌝ }
-{
-    Reported::Counts {
-        free_words: t.words as u32,
-        largest: layout::block_words(t.widest) as u32,
-        live_blocks: t.blocks as u32,
-        free_chunks: t.chunks as u32,
-    }
+    blocks
 }

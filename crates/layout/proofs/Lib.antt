@@ -5,6 +5,7 @@ pub mod Walking
 pub mod Holds
 pub mod Linked
 pub mod Written
+pub mod Chain
 pub mod Replace
 pub mod Round
 pub mod Inside

@@ -25,12 +25,6 @@ linkAt-below base c [] z h = omega arith
 linkAt-below base c (free s ∷ ks) z h = omega (arith, linkAt-below (c + 1) (c + s) ks (z .2) (omega arith))
 linkAt-below base c (live s ∷ ks) z h = omega (arith, linkAt-below base (c + s) ks (z .2) (omega arith))
 
--- the link word holds what is named after `ks`
-pub linkAt-holds : (a : List ℕ) (base c : ℕ) (ks : List Chunk) (after : ℕ) → Linked a base c ks after → getD a (linkAt base c ks) 0 ≡ after
-linkAt-holds a base c [] after h = h .0
-linkAt-holds a base c (free s ∷ ks) after h = linkAt-holds a (c + 1) (c + s) ks after (h .1 .1, h .1 .2)
-linkAt-holds a base c (live s ∷ ks) after h = linkAt-holds a base (c + s) ks after (h .0, h .1 .2)
-
 -- a store of `next` to the link word has `ks` name `next`, and changes nothing else
 pub relink : (a : List ℕ) (base c : ℕ) (ks : List Chunk) (after next : ℕ) → Sizes ks → base < c → c + total ks ≤ length a
     → Linked a base c ks after → Linked (set a (linkAt base c ks) next) base c ks next

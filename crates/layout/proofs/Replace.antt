@@ -11,7 +11,8 @@ use Rattle.layout.specs.Numbers.{firstChunk, listWord}
 use Rattle.layout.specs.Chunks.{Chunk, size, total, firstFree, second, header, write, written}
 use Rattle.layout.specs.Links.{linkAt}
 use Rattle.layout.proofs.Holds.{Sizes, Holds, Spaced, Lawful, apart-above, holds-split, firstFree-append, sizes-split, sizes-append, total-append, spaced-under}
-use Rattle.layout.proofs.Linked.{Linked, linkAt-below, linkAt-ne, linkAt-holds, relink}
+use Rattle.layout.proofs.Linked.{Linked, linkAt-below, linkAt-ne, relink}
+use Rattle.layout.proofs.Chain.{chain-behind, chain-first}
 use Rattle.layout.proofs.Written.{Arena, set-same, write-fixed, write-apart, header-same, header-set-second, header-set-other, write-set, Head, head-low, linkAt-in}
 
 -- headers are kept where no word from them on changes
@@ -92,7 +93,7 @@ module _ (a : List ℕ) (pre old new post : List Chunk) (c e : ℕ) (r : Arena a
   pub replaced-same : firstFree c new (firstFree e post 0) ≡ firstFree c old (firstFree e post 0)
       → written (pre ++ (new ++ post)) a ≡ write c new (firstFree e post 0) a
   replaced-same q =
-      let v = linkAt-holds a listWord firstChunk pre _ (before .1) ∙ firstFree-append c old post 0 e to ∙ sym q in
+      let v = chain-first a _ c (old ++ post) (chain-behind a pre (old ++ post) c r at) ∙ firstFree-append c old post 0 e to ∙ sym q in
       replaced ∙ ap (write c new (firstFree e post 0)) (set-same a (linkAt listWord firstChunk pre) _ v)
 
 -- the chunks stay lawful

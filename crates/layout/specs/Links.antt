@@ -1,5 +1,6 @@
 -- Which word names which free chunk. No public promise cites this file: it serves the functions inside.
-use Prim.Native.Nat.{ℕ, _+_}
+use Prim.Native.Nat.{ℕ, _+_, _<_}
+use mathlib.Core.Path.{_≡_}
 use mathlib.Core.Bool.{cond}
 use mathlib.Core.List.{List, [], _∷_}
 use lib.ListN.{length, getD}
@@ -11,6 +12,17 @@ abbrev pub linkAt : ℕ → ℕ → List Chunk → ℕ
 linkAt base c [] = base
 linkAt base c (free s ∷ ks) = linkAt (c + 1) (c + s) ks
 linkAt base c (live s ∷ ks) = linkAt base (c + s) ks
+
+-- the free list of `ks`, which begin at word `c`: the start and the size of each free chunk, in address order
+abbrev pub freeList : ℕ → List Chunk → List (ℕ × ℕ)
+freeList c [] = []
+freeList c (free s ∷ ks) = (c, s) ∷ freeList (c + s) ks
+freeList c (live s ∷ ks) = freeList (c + s) ks
+
+-- the links from word `link` on lead through `list`, starts and sizes, and end there: each word names the start of a chunk above it, the chunk's second word is the next link, and the last link is 0
+abbrev pub Chain : List ℕ → ℕ → List (ℕ × ℕ) → Type 0
+Chain a link [] = getD a link 0 ≡ 0
+Chain a link ((c, s) ∷ list) = (getD a link 0 ≡ c) × (getD a c 0 ≡ s) × (link < c) × (c + 1 < length a) × Chain a (c + 1) list
 
 -- the size of the chunk that may stand at word `c`, or 0 where none can
 unfoldable pub sizeAt : List ℕ → ℕ → ℕ

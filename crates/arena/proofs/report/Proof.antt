@@ -1,11 +1,14 @@
 -- `arena::report` meets its contract: what `check_arena` and `count` ensure says what `reportOn` is, and the counts of a sound arena are small.
 use mathlib.Core.Path.{_≡_, refl, sym, _∙_}
 use borrow.Author.Needs.{needs}
+use native.Mathlib.Omega.{arith}
+use Rattle.layout.specs.Numbers.{greatestLength}
+use Rattle.layout.specs.Walk.{chunksOf}
 use Rattle.layout.specs.Reasons.{arenaGate}
 use Rattle.layout.specs.declared.Gate.the-variants.{Open}
 use Rattle.arena.specs.Calls.{reportOn}
 use Rattle.arena.proofs.Gates.{gate-open}
-use Rattle.arena.proofs.Tallying.{tallied-small, tallied-counts}
+use Rattle.arena.proofs.Tallying.{Below, counts-small}
 use Rattle.arena.proofs.report.Statement.{statement}
 use Rattle.arena.proofs.report.Tie as tie
 
@@ -28,16 +31,33 @@ returns c =
 enum-told : tie.Need-enum-told
 enum-told c = search needs
 
-count-requires : tie.Need-count-requires
-count-requires c κs = gate-open _ (arena-open c)
+-- what was counted fits a word
+small : (c : tie.After-count-live) → Below greatestLength (chunksOf (c .before .before .before .before .before .before .args .a .now))
+small c = counts-small _ (gate-open _ (arena-open (c .before .before)))
 
-reported-requires : tie.Need-reported-requires
-reported-requires c κs = rw (c .count .ensures) (tallied-small _ (gate-open _ (arena-open (c .before))))
+count-free-requires : tie.Need-count-free-requires
+count-free-requires c κs = gate-open _ (arena-open c)
+
+count-live-requires : tie.Need-count-live-requires
+count-live-requires c κs = gate-open _ (arena-open (c .before))
+
+cast-t6 : tie.Need-cast-t6
+cast-t6 c = rw (c .before .before .count-free .ensures) (omega (arith, small (c .before)))
+
+cast-t7 : tie.Need-cast-t7
+cast-t7 c = rw (c .before .before .before .count-free .ensures) (omega (arith, small (c .before .before)))
+
+cast-t8 : tie.Need-cast-t8
+cast-t8 c = rw (c .before .before .count-live .ensures) (omega (arith, small (c .before .before)))
+
+cast-t9 : tie.Need-cast-t9
+cast-t9 c = rw (c .before .before .before .before .count-free .ensures) (omega (arith, small (c .before .before .before)))
 
 returns-2 : tie.Need-returns-2
 unfolding reportOn
 returns-2 c =
-    rw (← arena-open (c .before .before), c .reported .ensures, c .before .count .ensures, tallied-counts)
+    let d = c .before .before .before in
+    rw (← arena-open (d .before .before), d .before .count-free .ensures, d .count-live .ensures)
     (record { answers = refl; leaves = refl })
 
 pub report-spec : {M : Type 1} → statement M
@@ -48,6 +68,10 @@ report-spec =
     enum-known-arena
     returns
     enum-told
-    count-requires
-    reported-requires
+    count-free-requires
+    count-live-requires
+    cast-t6
+    cast-t7
+    cast-t8
+    cast-t9
     returns-2)

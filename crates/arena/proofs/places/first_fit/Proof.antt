@@ -1,4 +1,4 @@
--- `arena::places::first_fit` meets its contract. The loop's invariant: some of the chunks are left, and `link` names the first free one of them.
+-- `arena::places::first_fit` meets its contract. The loop's invariant: from word `link` on the links lead through what is left of the free list.
 -- The measure is what is left of the words.
 use Prim.Native.Nat.{ℕ, _-_}
 use mathlib.Core.Path.{sym, _∙_}
@@ -7,34 +7,30 @@ use native.Mathlib.Omega.{arith}
 use lib.ListN.{length, getD}
 use borrow.Author.Needs.{needs}
 use borrow.Author.Tests.{le-leb, lt-leb}
-use Rattle.layout.specs.Numbers.{firstChunk}
-use Rattle.layout.specs.Chunks.{Chunk, free}
-use Rattle.layout.specs.Walk.{chunksOf}
-use Rattle.arena.specs.Spots.{fits, firstFit}
-use Rattle.arena.specs.Inside.Places.{placeOf}
-use Rattle.arena.proofs.Searching.{Going, Searching, search-begins, search-stops, search-past-free, links-end, link-names}
+use Rattle.layout.proofs.Chain.{chain-ends, chain-goes-on}
+use Rattle.arena.proofs.Searching.{Seeking, seek-begins, seek-stops, seek-goes-on}
 use Rattle.arena.proofs.places.first_fit.Statement.{statement}
 use Rattle.arena.proofs.places.first_fit.Tie as tie
 
 abbrev Inv-loop : tie.InvT-loop
-Inv-loop a need link₀ link = (chunk : ℕ) × Searching a (fits need) (placeOf (firstFit need (chunksOf a))) link chunk
+Inv-loop a need link₀ link = (list : List (ℕ × ℕ)) × Seeking a need link list
 
 abbrev μ-loop : tie.MeasureT-loop
 μ-loop a need link₀ link = length a - link
 
--- past the first test, `next` is where the first free chunk of those left starts
+-- past the first test, `next` is where the first chunk of the list starts
 named : (c : tie.Else1 Inv-loop μ-loop)
     → let d = c .before .before .before in
     let a = d .before .before .args .a .now in
-    let need = d .before .before .args .need in
     let next = c .before .wide .result in
-    (ls : List Chunk) × Going a (fits need) (placeOf (firstFit need (chunksOf a))) (d .loop .link) next (free (getD a next 0) ∷ ls)
+    (rest : List (ℕ × ℕ)) × Seeking a (d .before .before .args .need) (d .loop .link) ((next, getD a next 0) ∷ rest)
 named c =
-    let (chunk, (ks, g)) = c .before .before .before .loop .inv in
-    link-names _ _ _ _ chunk ks g (c .before .wide .result) (c .before .wide .ensures) (c .if1 .left)
+    let (list, g) = c .before .before .before .loop .inv in
+    let (rest, e) = chain-goes-on _ _ list (g .leads) (c .before .wide .result) (c .before .wide .ensures) (c .if1 .left) in
+    (rest, rw e at g)
 
 loop-holds : tie.Need-loop-holds Inv-loop μ-loop
-loop-holds c = (firstChunk, search-begins (c .before .args .a .now) (fits (c .before .args .need)) (c .before .pre))
+loop-holds c = (_, seek-begins (c .before .args .a .now) (c .before .args .need) (c .before .pre))
 
 mul-wide : tie.Need-mul-wide Inv-loop μ-loop
 mul-wide c = search needs
@@ -47,8 +43,9 @@ wide-requires c κs = search needs
 
 returns : tie.Need-returns Inv-loop μ-loop
 returns c =
-    let (chunk, (ks, g)) = c .before .before .before .loop .inv in
-    links-end _ _ _ _ chunk ks g (sym (c .if1 .taken) ∙ c .before .wide .ensures)
+    let (list, g) = c .before .before .before .loop .inv in
+    let e = chain-ends _ _ list (g .leads) (sym (c .before .wide .ensures) ∙ c .if1 .taken) in
+    rw e at (g .goes)
 
 mul-wide-2 : tie.Need-mul-wide-2 Inv-loop μ-loop
 mul-wide-2 c = omega (arith, named c)
@@ -67,13 +64,13 @@ loop-less c = omega (arith, named (c .before .before .before))
 
 loop-again : tie.Need-loop-again Inv-loop μ-loop
 loop-again c =
-    let (ls, g) = named (c .before .before .before) in
-    (_, (ls, search-past-free _ _ _ _ _ _ ls g (rw (← c .before .wide2 .ensures) (lt-leb _ _ (c .if2 .left)))))
+    let (rest, g) = named (c .before .before .before) in
+    (rest, seek-goes-on _ _ _ _ _ rest g (rw (← c .before .wide2 .ensures) (lt-leb _ _ (c .if2 .left))))
 
 returns-2 : tie.Need-returns-2 Inv-loop μ-loop
 returns-2 c =
-    let (ls, g) = named (c .before .before .before) in
-    search-stops _ _ _ _ _ _ ls g (rw (← c .before .wide2 .ensures) (le-leb _ _ (c .if2 .taken)))
+    let (rest, g) = named (c .before .before .before) in
+    seek-stops _ _ _ _ _ rest g (rw (← c .before .wide2 .ensures) (le-leb _ _ (c .if2 .taken)))
 
 pub first-fit-spec : {M : Type 1} → statement M
 first-fit-spec =
