@@ -5,7 +5,7 @@ use mathlib.Core.Bool.{true}
 use mathlib.Core.List.{List, [], _∷_, _++_}
 use native.Mathlib.Omega.{arith}
 use lib.ListN.{length, replicate, length-replicate}
-use Rattle.layout.specs.Numbers.{firstChunk, headerWords, greatestLength, need}
+use Rattle.layout.specs.Numbers.{firstChunk, headerWords, need}
 use Rattle.layout.specs.Chunks.{Chunk, free, live, total}
 use Rattle.layout.specs.Walk.{sound, chunksOf}
 use Rattle.layout.specs.Reasons.{number}
@@ -17,9 +17,8 @@ use Rattle.layout.proofs.Round.{sound-chunks}
 use Rattle.arena.specs.Answers.{Outcome}
 use Rattle.arena.specs.Rules.{taken}
 use Rattle.arena.specs.Calls.{startOn, allocOn, freeOn, reallocOn, reportOn}
-use Rattle.arena.specs.Inside.Tallies as tallies
 use Rattle.arena.proofs.Moving.{cut-numbers}
-use Rattle.arena.proofs.Tallying.{counted, tallied-counts, tallied-small}
+use Rattle.arena.proofs.Tallying.{counts-small}
 use Rattle.arena.proofs.Cases.{Case, refuses, does, Starts, starts, start-case, Allots, allots, alloc-case, Frees, frees, free-case, Reports, reports, report-case}
 use Rattle.arena.proofs.Regranting.{shrinks, grows, moves, Regrants, in-place, elsewhere, realloc-case}
 use Rattle.lines.specs.Digits.{twoDigitValues, fourDigitValues}
@@ -106,6 +105,4 @@ module _ (a : List ℕ) where
   report-fits = case-fits go (report-case a)
     where
       go : (values after : List ℕ) → Reports a values after → Fits 4 values
-      go values after (reports e) =
-          let small : tallies.Below greatestLength (counted (chunksOf a)) = rw tallied-counts at (tallied-small a e) in
-          omega arith
+      go values after (reports e) = omega (arith, counts-small a e)
