@@ -1,8 +1,8 @@
-"""Holds the program `cases` and the model to rows of resize, move and realloc, worked out by hand with all words."""
+"""Holds the program `cases` and the model to rows of some of the calls, worked out by hand with all words."""
 
 import driver
 import model
-from cases import REALLOC, RELOCATE, RESIZE, Case
+from cases import REALLOC, RELOCATE, REPORT, RESIZE, Case
 from comparing import run_rows
 
 # Arenas with which more than one function of rows begins.
@@ -17,13 +17,18 @@ def words(text):
 
 
 def done(call, block, asked, before, fields, after):
-    """A case that is done, with the block and the granted words that are answered, and the words that it leaves."""
+    """A case that is done, with the numbers that are answered, and the words that it leaves."""
     return Case(call, block, asked, words(before)), model.Answer(0, fields, [], words(after))
 
 
 def refused(call, block, asked, before, code):
     """A case that is refused: its numbers are 0, and every word stays."""
     return Case(call, block, asked, words(before)), model.Answer(code, (0, 0), [], words(before))
+
+
+def reported(before, fields):
+    """A report that is done, with free words, largest request, live blocks and free chunks: every word stays."""
+    return done(REPORT, 0, 0, before, fields, before)
 
 
 def counted(first, last):
@@ -211,15 +216,58 @@ def order_rows():
         yield refused(call, 4, 4, odd, 1)
 
 
+def report_rows():
+    """A report of several free chunks, of which the first, the last or the middle one is the largest, or two are."""
+    first = ("28 2 | 8 14 1004 1005 1006 1007 1008 1009 | 4 live 1012 1013 | 4 22 1016 1017 | 4 live 1020 1021"
+             " | 6 0 1024 1025 1026 1027")
+    last = ("28 2 | 4 10 1004 1005 | 4 live 1008 1009 | 4 18 1012 1013 | 4 live 1016 1017"
+            " | 10 0 1020 1021 1022 1023 1024 1025 1026 1027")
+    middle = ("28 2 | 4 10 1004 1005 | 4 live 1008 1009 | 8 22 1012 1013 1014 1015 1016 1017 | 4 live 1020 1021"
+              " | 6 0 1024 1025 1026 1027")
+    two = "18 2 | 6 12 1004 1005 1006 1007 | 4 live 1010 1011 | 6 0 1014 1015 1016 1017"
+    yield reported(first, (18, 6, 2, 3))
+    yield reported(last, (18, 8, 2, 3))
+    yield reported(middle, (18, 6, 2, 3))
+    yield reported(two, (12, 4, 1, 2))
+
+
+def short_list_rows():
+    """A report of one free chunk, or of none, whatever lies in the chunks and looks like a header or a link."""
+    yield reported("6 2 | 4 0 1004 1005", (4, 2, 0, 1))
+    yield reported(f"16384 2 | 16382 0 {counted(4, 16383)}", (16382, 16380, 0, 1))
+    yield reported(SHORT_GAP, (4, 2, 2, 1))
+    yield reported(BESIDE_FREE, (6, 4, 1, 1))
+    yield reported("12 0 | 6 live 1004 1005 1006 1007 | 4 live 1010 1011", (0, 0, 2, 0))
+    yield reported("16 0 | 10 live 1004 1005 4 0 1008 1009 1010 1011 | 4 live 1014 1015", (0, 0, 2, 0))
+    yield reported("16 2 | 10 0 4 live 1006 1007 4 12 1010 1011 | 4 live 1014 1015", (10, 8, 1, 1))
+
+
+def long_list_rows():
+    """A report of the longest free list: every second of 4,095 chunks is free, and only the last has six words."""
+    pairs = " | ".join(f"4 {start + 8} 1004 1005 | 4 live 1008 1009" for start in range(2, 16378, 8))
+    yield reported(f"16384 2 | {pairs} | 6 0 1004 1005 1006 1007", (8194, 4, 2047, 2048))
+
+
+def lost_list_rows():
+    """A list that leaves out a free chunk, goes round, or leads to a live chunk or elsewhere is damage.
+
+    Of each row the list's first word and the links of the two free chunks are named; right are 2, 12 and 0.
+    """
+    for list_word, left, right in ((0, 12, 0), (12, 12, 0), (2, 0, 0), (2, 12, 2), (2, 12, 12), (2, 8, 0), (2, 14, 0)):
+        chunks = f"6 {left} 1004 1005 1006 1007 | 4 live 1010 1011 | 6 {right} 1014 1015 1016 1017"
+        yield refused(REPORT, 0, 0, f"18 {list_word} | {chunks}", 2)
+    yield refused(REPORT, 0, 0, "15 8 | 6 live 1004 1005 1006 1007 | 4 0 1010 1011 | 3 live 1014", 1)
+
+
 ROWS = [live_neighbour_rows, short_neighbour_rows, passed_neighbour_rows, lowest_gap_rows, grow_rows, cut_rows,
         long_resize_rows, shorter_move_rows, long_move_rows, equal_move_rows, gap_above_rows, swallowed_header_rows,
-        refused_move_rows, order_rows]
+        refused_move_rows, order_rows, report_rows, short_list_rows, long_list_rows, lost_list_rows]
 
 
 def compare(chosen):
     """Every row through the model and through the program; the last line counts the rows."""
     count = run_rows(chosen.cases, [row for rows in ROWS for row in rows()])
-    return f"{count} rows of resize, the move and realloc compared with all their words"
+    return f"{count} rows of resize, the move, realloc and report compared with all their words"
 
 
 if __name__ == "__main__":

@@ -1,4 +1,4 @@
-"""Holds every grant and free on every sound arena of up to 24 words to the model: every block, every request."""
+"""Holds grants, frees and reports on every sound arena of up to 24 words to the model: every block, every request."""
 
 import arenas
 import cases
@@ -20,7 +20,7 @@ def layouts(start, length, after_free):
 
 
 def cases_on(length, pieces):
-    """Every request, from 0 to one too large, of an arena of these chunks and of each of them, the free ones too."""
+    """A report, and every request, from 0 to one too large, of an arena of these chunks and of each of them."""
     words = [1000 + at for at in range(length)]
     arenas.store_headers(words, pieces)
     for asked in range(length - 2):
@@ -30,6 +30,7 @@ def cases_on(length, pieces):
                 yield cases.Case(call, piece.start + model.HEADER, asked, words)
     for piece in pieces:
         yield cases.Case(cases.FREE, piece.start + model.HEADER, 0, words)
+    yield cases.Case(cases.REPORT, 0, 0, words)
 
 
 def compare(chosen):

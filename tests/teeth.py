@@ -21,16 +21,21 @@ BETWEEN_LIVE = [16, 2, 6, 0, 71, 72, 73, 74, 4, 4294967295, 75, 76, 4, 429496729
 # What a stand-in can do wrong in a resize, a move, or the realloc that is made of them.
 ANOTHER_LENGTH = ["tail", "cut", "early", "less", "all", "asked", "stays", "moves", "never", "order", "lacks", "stores"]
 
+# What it can do wrong in a report.
+ANOTHER_COUNT = ["link", "header"]
+
 # The drivers, how much each compares here, and the faults of a stand-in for a program that it has to see.
 FAULTS = [
-    ("document_rows", 1, "board", ["digit", "missing", "extra", "tail"]),
+    ("document_rows", 1, "board", ["digit", "missing", "extra", "tail", *ANOTHER_COUNT]),
     ("document_rows", 1, "cases", ["word", "missing", "extra"]),
-    ("call_rows", 1, "cases", ["word", "missing", "extra", "believe", "clear", "byte", *ANOTHER_LENGTH]),
-    ("small_arenas", 1, "cases", ["word", "missing", "extra", "clear", *ANOTHER_LENGTH]),
+    ("call_rows", 1, "cases", ["word", "missing", "extra", "believe", "clear", "byte", "links", *ANOTHER_COUNT,
+                              *ANOTHER_LENGTH]),
+    ("small_arenas", 1, "cases", ["word", "missing", "extra", "clear", *ANOTHER_COUNT, *ANOTHER_LENGTH]),
     ("pages", 1, "board", ["digit", "missing", "tail"]),
-    ("random_lines", 3000, "board", ["digit", "missing", "extra", "tail", "early", "never", "late"]),
-    ("damaged_arenas", 3000, "cases", ["word", "missing", "extra", "believe", "clear", *ANOTHER_LENGTH]),
-    ("full_board", 1, "board", ["digit"]),
+    ("random_lines", 3000, "board", ["digit", "missing", "extra", "tail", "early", "never", "late", *ANOTHER_COUNT]),
+    ("damaged_arenas", 3000, "cases", ["word", "missing", "extra", "believe", "clear", *ANOTHER_COUNT,
+                                       *ANOTHER_LENGTH]),
+    ("full_board", 1, "board", ["digit", "links"]),
 ]
 
 

@@ -1,5 +1,5 @@
 -- The law of the free list: the chain of links is exactly the free chunks, in address order.
-use mathlib.Core.Path.{_≡_, refl, _∙_, subst}
+use mathlib.Core.Path.{_≡_, refl, sym, ap, _∙_, subst}
 use mathlib.Core.Logic.{_≢_}
 use mathlib.Core.List.{List, [], _∷_, _++_}
 use Prim.Native.Nat.{ℕ, _+_, _<_}
@@ -34,6 +34,15 @@ pub chain-goes-on : (a : List ℕ) (link : ℕ) (list : List (ℕ × ℕ)) → C
     → (rest : List (ℕ × ℕ)) × (list ≡ (next, getD a next 0) ∷ rest)
 chain-goes-on a link [] h next e n = absurd (n (e ∙ h))
 chain-goes-on a link ((c, s) ∷ list) h next e n = (list, rw (e ∙ h .0, h .1))
+
+-- so the links from a word on lead through one list only
+pub chain-only : (a : List ℕ) (link : ℕ) (list other : List (ℕ × ℕ)) → Chain a link list → Chain a link other → list ≡ other
+chain-only a link [] other h k = sym (chain-ends a link other k h)
+chain-only a link ((c, s) ∷ list) [] h k = chain-ends a link ((c, s) ∷ list) h k
+chain-only a link ((c, s) ∷ list) ((d, t) ∷ other) h k =
+    let e : c ≡ d = sym (h .0) ∙ k .0 in
+    let f : s ≡ t = sym (h .1) ∙ ap (λ (i : ℕ). getD a i 0) e ∙ k .1 in
+    rw (e, f) (ap (_∷_ (d, t)) (chain-only a (c + 1) list other (h .4) (rw e (k .4))))
 
 -- ---- in the middle of the chain: the word that names the first free chunk after `pre`
 

@@ -1,4 +1,4 @@
--- Which word names which free chunk. No public promise cites this file: it serves the functions inside.
+-- Which word names which free chunk. No public contract cites this file: it serves the functions inside, and the law of the free list.
 use Prim.Native.Nat.{ℕ, _+_, _<_}
 use mathlib.Core.Path.{_≡_}
 use mathlib.Core.Bool.{cond}
