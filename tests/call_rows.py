@@ -251,7 +251,8 @@ def long_list_rows():
 def lost_list_rows():
     """A list that leaves out a free chunk, goes round, or leads to a live chunk or elsewhere is damage.
 
-    Of each row the list's first word and the links of the two free chunks are named; right are 2, 12 and 0.
+    Of each row the list's first word and the links of the two free chunks are named; right are 2, 12 and 0. The last
+    row's length is odd, and that comes first.
     """
     for list_word, left, right in ((0, 12, 0), (12, 12, 0), (2, 0, 0), (2, 12, 2), (2, 12, 12), (2, 8, 0), (2, 14, 0)):
         chunks = f"6 {left} 1004 1005 1006 1007 | 4 live 1010 1011 | 6 {right} 1014 1015 1016 1017"

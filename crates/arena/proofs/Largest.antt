@@ -7,7 +7,7 @@ use Prim.Native.Nat.{ℕ, _-_, _%_, _≤_, _<_}
 use native.Mathlib.Omega.{arith}
 use lib.ListN.{getD}
 use Rattle.layout.specs.Numbers.{headerWords, need}
-use Rattle.layout.specs.Chunks.{Chunk, free, live, total}
+use Rattle.layout.specs.Chunks.{Chunk, free, live}
 use Rattle.layout.specs.Walk.{sound, chunksOf}
 use Rattle.layout.specs.declared.Reason.{Reason}
 use Rattle.layout.specs.declared.Reason.the-variants.{Length, Damaged, NotABlock, Zero, TooLarge, NoRoom, Frame, WouldMove}
@@ -18,6 +18,7 @@ use Rattle.arena.specs.Answers.{Outcome}
 use Rattle.arena.specs.Rules.{widest}
 use Rattle.arena.specs.Calls.{allocOn, reportOn}
 use Rattle.arena.proofs.Gates.{sound-lawful}
+use Rattle.arena.proofs.Tallying.{counts-within}
 use Rattle.arena.proofs.Blocks.{FreeShorter, free-shorter-tail}
 use Rattle.arena.proofs.Causes.{AllocRefused}
 use Rattle.arena.proofs.Cases.{Case, refuses, does, Allots, allots, alloc-case}
@@ -25,11 +26,6 @@ use Rattle.arena.proofs.Gates.{sound-gate}
 use Rattle.arena.proofs.Reasons.{alloc-done}
 
 -- ---- the size of the largest free chunk
-
-widest-within : (ks : List Chunk) → widest ks ≤ total ks
-widest-within [] = omega arith
-widest-within (free s ∷ ks) = omega (arith, widest-within ks)
-widest-within (live s ∷ ks) = omega (arith, widest-within ks)
 
 widest-even : (ks : List Chunk) → Sizes ks → widest ks % 2 ≡ 0
 widest-even [] z = refl
@@ -67,7 +63,7 @@ module _ (a : List ℕ) (e : sound a ≡ true) where
       none Damaged (l, s) = true≢false (sym e ∙ s)
       none NotABlock (s, h) = h
       none Zero (s, z) = omega arith
-      none TooLarge (s, m) = omega (arith, largest-is, widest-within (chunksOf a), sound-chunks a e .law .fills)
+      none TooLarge (s, m) = let r = sound-chunks a e .law in omega (arith, largest-is, counts-within (chunksOf a) (r .sizes) .widest-fits, r .fills)
       none NoRoom (s, (r, h)) =
           omega (arith, largest-is, widest-even (chunksOf a) (sound-chunks a e .law .sizes), widest-below (chunksOf a) (need n) (omega arith) h)
       none Frame h = h

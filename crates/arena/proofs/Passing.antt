@@ -1,5 +1,5 @@
 -- A pass over the chunks of a sound arena: what is left of them, and what the words say of the next one.
-use mathlib.Core.Path.{_≡_}
+use mathlib.Core.Path.{_≡_, sym, _∙_}
 use mathlib.Core.Logic.{_≢_}
 use mathlib.Core.Bool.{true}
 use mathlib.Core.List.{List, [], _∷_}
@@ -7,9 +7,9 @@ use Prim.Native.Nat.{ℕ, _+_, _%_, _≤_, _<_}
 use native.Mathlib.Omega.{arith}
 use lib.ListN.{length, getD}
 use Rattle.layout.specs.Numbers.{firstChunk, leastSize, greatestLength, liveMark}
-use Rattle.layout.specs.Chunks.{Chunk, free, live, size, total, firstFree}
+use Rattle.layout.specs.Chunks.{Chunk, free, live, size, total}
 use Rattle.layout.specs.Walk.{sound, chunksOf}
-use Rattle.layout.proofs.Holds.{Sizes, Holds, firstFree-within}
+use Rattle.layout.proofs.Holds.{Sizes, Holds, link-unmarked}
 use Rattle.layout.proofs.Round.{sound-chunks}
 
 -- the chunks `ks` are left: they begin at word `chunk` and fill the arena
@@ -41,9 +41,7 @@ module _ (a : List ℕ) (chunk : ℕ) where
       → (ls : List Chunk) × (ks ≡ live (getD a chunk 0) ∷ ls)
   live-here [] l h e = absurd (omega arith)
   live-here (live s ∷ ks) l h e = (ks, rw (l .heads .0))
-  live-here (free s ∷ ks) l h e =
-      let n : getD a (chunk + 1) 0 ≡ firstFree (chunk + s) ks 0 = l .heads .1 in
-      absurd (omega (arith, firstFree-within (chunk + s) ks))
+  live-here (free s ∷ ks) l h e = absurd (link-unmarked (chunk + s) ks (omega arith) (sym (l .heads .1) ∙ e))
 
   pub free-here : (ks : List Chunk) → Left a chunk ks → chunk < length a → getD a (chunk + 1) 0 ≢ liveMark
       → (ls : List Chunk) × (ks ≡ free (getD a chunk 0) ∷ ls)

@@ -10,7 +10,7 @@ use Rattle.layout.specs.Numbers.{leastSize, greatestLength}
 use Rattle.layout.specs.Chunks.{Chunk, free, live, total, firstFree, write, written}
 use Rattle.layout.specs.Links.{freeList, Chain}
 use Rattle.layout.proofs.Holds.{Sizes, Spaced, sizes-split, total-append, total-even, firstFree-within}
-use Rattle.layout.proofs.Chain.{chain-first}
+use Rattle.layout.proofs.Chain.{chain-next}
 use Rattle.layout.proofs.Written.{Arena}
 use Rattle.layout.proofs.Replace.{replaced}
 use Rattle.arena.specs.Rules.{join}
@@ -67,9 +67,9 @@ module _ (a : List ℕ) (pre : List Chunk) (s : ℕ) (link chunk : ℕ) where
       → firstFree (chunk + s) post 0 ≡ chunk + s → NextJoins a s post chunk s (chunk + s)
   next-joins [] r e = absurd (omega arith)
   next-joins (free t ∷ ks) r e =
-      let h : Chain a link ((chunk + s, t) ∷ freeList (chunk + s + t) ks) = r .leads in
+      let h : Chain a link (freeList (chunk + s) (free t ∷ ks)) = r .leads in
       let z : (t % 2 ≡ 0) × (leastSize ≤ t) × Sizes ks = r .sizes-after in
-      rw (h .1, chain-first a (chunk + s + 1) (chunk + s + t) ks (h .4)) (z .1, omega arith, record { words-are = refl; next-is = ap (λ (c : ℕ). firstFree c ks 0) (omega arith) })
+      rw (h .1, chain-next a link (chunk + s) t ks h) (z .1, omega arith, record { words-are = refl; next-is = ap (λ (c : ℕ). firstFree c ks 0) (omega arith) })
   next-joins (live t ∷ ks) r e =
       let z : (t % 2 ≡ 0) × (leastSize ≤ t) × Sizes ks = r .sizes-after in
       absurd (firstFree-past (chunk + s + t) ks (chunk + s) (omega arith) (omega arith) e)

@@ -1,18 +1,17 @@
--- The two searches, step by step: past every chunk for a block, along the free list for a chunk that fits.
+-- The two searches, step by step: past every chunk for a block, along the free list for the first chunk that passes a test.
 use mathlib.Core.Path.{_≡_, refl, sym, _∙_}
 use mathlib.Core.Bool.{Bool, true, false, cond}
 use mathlib.Core.List.{List, [], _∷_}
 use Prim.Native.Nat.{ℕ, _+_, _≤_, _<_}
 use native.Mathlib.Omega.{arith}
 use lib.ListN.{length}
-use lib.Dec.{leb}
 use Rattle.layout.specs.Numbers.{firstChunk, listWord}
 use Rattle.layout.specs.Chunks.{Chunk, free, live}
 use Rattle.layout.specs.Walk.{sound, chunksOf}
 use Rattle.layout.specs.Links.{freeList, Chain}
 use Rattle.layout.proofs.Chain.{chain}
 use Rattle.layout.proofs.Round.{sound-chunks}
-use Rattle.arena.specs.Spots.{lowest, fits, isBlock, firstFit, held}
+use Rattle.arena.specs.Spots.{lowest, isBlock, held}
 use Rattle.arena.specs.Inside.Places.{placeOf}
 use Rattle.arena.specs.declared.places.Place.{Place}
 use Rattle.arena.specs.declared.places.Place.the-variants.{At, Nowhere}
@@ -21,7 +20,7 @@ use Rattle.arena.proofs.Passing.{Left, all-left, past}
 
 -- ---- past every chunk, for block `b`
 
--- the search has yet to pass `ks`, and will come to the block
+-- the search has yet to pass `ks`: among them it finds the block, or that there is none
 pub record Going (a : List ℕ) (b link chunk : ℕ) (ks : List Chunk) : Type 0 where
   pub left : Left a chunk ks
   pub goes : placeFrom link chunk (lowest (isBlock b) chunk ks) ≡ placeOf (held b (chunksOf a))
@@ -53,45 +52,47 @@ module _ (a : List ℕ) (b link chunk : ℕ) where
   search-ends [] g h = g .goes
   search-ends (k ∷ ks) g h = absurd (omega arith)
 
--- ---- along the free list, for a chunk of `need` words
+-- ---- along the free list, for the first chunk that passes a test
 
--- the first of a list that is long enough, as a search answers it; word `link` names the first of all
-abbrev firstLong : ℕ → ℕ → List (ℕ × ℕ) → Place
-firstLong need link [] = Nowhere
-firstLong need link ((c, s) ∷ list) = cond (leb need s) (At link c) (firstLong need (c + 1) list)
+-- the first of a list that passes a test, as a search answers it; word `link` names the first of all
+abbrev firstOf : (ℕ → Chunk → Bool) → ℕ → List (ℕ × ℕ) → Place
+firstOf test link [] = Nowhere
+firstOf test link ((c, s) ∷ list) = cond (test c (free s)) (At link c) (firstOf test (c + 1) list)
 
--- of the free list it is the lowest chunk that fits
-first-fits : (need link c : ℕ) (ks : List Chunk) → placeFrom link c (lowest (fits need) c ks) ≡ firstLong need link (freeList c ks)
+-- of the free list it is the lowest chunk that passes, if no live chunk does
+first-lowest : (test : ℕ → Chunk → Bool) → ((c s : ℕ) → test c (live s) ≡ false) → (link c : ℕ) (ks : List Chunk)
+    → placeFrom link c (lowest test c ks) ≡ firstOf test link (freeList c ks)
 unfolding lowest placeFrom
-first-fits need link c [] = refl
-first-fits need link c (live s ∷ ks) = place-past-live link c s (lowest (fits need) (c + s) ks) ∙ first-fits need link (c + s) ks
-first-fits need link c (free s ∷ ks) = go (leb need s) refl (first-fits need (c + 1) (c + s) ks)
+first-lowest test miss link c [] = refl
+first-lowest test miss link c (live s ∷ ks) = rw (miss c s) (place-past-live link c s (lowest test (c + s) ks) ∙ first-lowest test miss link (c + s) ks)
+first-lowest test miss link c (free s ∷ ks) = go (test c (free s)) refl (first-lowest test miss (c + 1) (c + s) ks)
   where
-    go : (long : Bool) → leb need s ≡ long → placeFrom (c + 1) (c + s) (lowest (fits need) (c + s) ks) ≡ firstLong need (c + 1) (freeList (c + s) ks)
-        → placeFrom link c (lowest (fits need) c (free s ∷ ks)) ≡ firstLong need link (freeList c (free s ∷ ks))
+    go : (passes : Bool) → test c (free s) ≡ passes → placeFrom (c + 1) (c + s) (lowest test (c + s) ks) ≡ firstOf test (c + 1) (freeList (c + s) ks)
+        → placeFrom link c (lowest test c (free s ∷ ks)) ≡ firstOf test link (freeList c (free s ∷ ks))
     go true e r = rw e (place-here link c (free s) ks)
-    go false e r = rw e (place-past-free link c s (lowest (fits need) (c + s) ks) ∙ r)
+    go false e r = rw e (place-past-free link c s (lowest test (c + s) ks) ∙ r)
 
--- the search has yet to follow the links from word `link` on, through `list`
-pub record Seeking (a : List ℕ) (need link : ℕ) (list : List (ℕ × ℕ)) : Type 0 where
+-- the search has yet to follow the links from word `link` on, through `list`: the first of these that passes is its answer
+pub record Seeking (a : List ℕ) (test : ℕ → Chunk → Bool) (link : ℕ) (list : List (ℕ × ℕ)) : Type 0 where
   pub leads : Chain a link list
   pub inside : link < length a
-  pub goes : firstLong need link list ≡ placeOf (firstFit need (chunksOf a))
+  pub goes : firstOf test link list ≡ placeOf (lowest test firstChunk (chunksOf a))
 
-pub seek-begins : (a : List ℕ) (need : ℕ) → sound a ≡ true → Seeking a need listWord (freeList firstChunk (chunksOf a))
-seek-begins a need e =
+pub seek-begins : (a : List ℕ) (test : ℕ → Chunk → Bool) → ((c s : ℕ) → test c (live s) ≡ false) → sound a ≡ true
+    → Seeking a test listWord (freeList firstChunk (chunksOf a))
+seek-begins a test miss e =
     let r = sound-chunks a e in
     record {
       leads = chain a (chunksOf a) r;
       inside = omega (arith, r .law .least);
-      goes = sym (first-fits need listWord firstChunk (chunksOf a)) ∙ place-from (firstFit need (chunksOf a));
+      goes = sym (first-lowest test miss listWord firstChunk (chunksOf a)) ∙ place-from (lowest test firstChunk (chunksOf a));
     }
 
-module _ (a : List ℕ) (need link c s : ℕ) (list : List (ℕ × ℕ)) (g : Seeking a need link ((c, s) ∷ list)) where
-  -- the first chunk of the list is long enough
-  pub seek-stops : leb need s ≡ true → At link c ≡ placeOf (firstFit need (chunksOf a))
+module _ (a : List ℕ) (test : ℕ → Chunk → Bool) (link c s : ℕ) (list : List (ℕ × ℕ)) (g : Seeking a test link ((c, s) ∷ list)) where
+  -- the first chunk of the list passes
+  pub seek-stops : test c (free s) ≡ true → At link c ≡ placeOf (lowest test firstChunk (chunksOf a))
   seek-stops t = rw t at (g .goes)
 
-  -- it is not
-  pub seek-goes-on : leb need s ≡ false → Seeking a need (c + 1) list
+  -- it does not
+  pub seek-goes-on : test c (free s) ≡ false → Seeking a test (c + 1) list
   seek-goes-on t = record { leads = g .leads .4; inside = g .leads .3; goes = rw t at (g .goes) }

@@ -6,7 +6,7 @@ use Prim.Native.Nat.{ℕ, _+_, _%_, _≤_, _<_}
 use native.Mathlib.Omega.{arith}
 use lib.ListN.{length, getD}
 use Rattle.layout.specs.Numbers.{firstChunk, listWord, leastSize, greatestLength}
-use Rattle.layout.specs.Chunks.{Chunk, size, total, firstFree, second}
+use Rattle.layout.specs.Chunks.{Chunk, size, total, firstFree}
 use Rattle.layout.specs.Walk.{sound, chunksOf}
 use Rattle.layout.specs.Links.{linkAt, freeList, Chain}
 use Rattle.layout.proofs.Holds.{Sizes, holds-split, sizes-split, total-append}
@@ -23,7 +23,6 @@ use Rattle.arena.proofs.Spots.{lowest-hit}
 pub record Reads (a : List ℕ) (pre : List Chunk) (k : Chunk) (post : List Chunk) (link chunk : ℕ) : Type 0 where
   pub arena : Arena a (pre ++ k ∷ post)
   pub size-is : getD a chunk 0 ≡ size k
-  pub second-is : getD a (chunk + 1) 0 ≡ second k (firstFree (chunk + size k) post 0)
   pub leads : Chain a link (freeList chunk (k ∷ post))
   pub names : getD a link 0 ≡ firstFree chunk (k ∷ post) 0
   pub even : size k % 2 ≡ 0
@@ -47,7 +46,6 @@ reads a pre k post link chunk s =
     record {
       arena = r;
       size-is = h .1 .0;
-      second-is = h .1 .1;
       leads = l;
       names = chain-first a link chunk (k ∷ post) l;
       even = zk .0;

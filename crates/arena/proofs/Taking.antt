@@ -10,6 +10,7 @@ use borrow.Author.Tests.{leb-true, le-leb, lt-leb}
 use Rattle.layout.specs.Numbers.{leastSize, leastSplit, greatestLength, liveMark}
 use Rattle.layout.specs.Chunks.{Chunk, free, live, header, write}
 use Rattle.layout.proofs.Holds.{Sizes, Lawful, sizes-split, spaced-weaken, firstFree-within}
+use Rattle.layout.proofs.Chain.{chain-next}
 use Rattle.layout.proofs.Replace.{replaced, replaced-same, lawful-replaced}
 use Rattle.arena.specs.Rules.{cut}
 use Rattle.arena.specs.Inside.Places.{Stands, FitsAt, Needed}
@@ -47,6 +48,7 @@ pub gap : (a : List ℕ) (link chunk need size next : ℕ) → FitsAt a link chu
 gap a link chunk need size next f e q =
     let r = reads a (f .pre) (free (f .s)) (f .post) link chunk (f .stands) in
     let n = firstFree-within (chunk + f .s) (f .post) in
+    let w = chain-next a link chunk (f .s) (f .post) (r .leads) in
     let d = f .enough in
     let m = f .needed in
     record { enough = omega arith; least = omega arith; below = omega arith; inside = omega arith; most = omega arith; next-inside = omega arith }
@@ -65,7 +67,7 @@ module _ (a : List ℕ) (pre : List Chunk) (s : ℕ) (post : List Chunk) (link c
       record {
         starts = rw no (omega (arith, st .at-is));
         has = rw no all;
-        leaves = rw (no, all, next-is, r .second-is, st .link-is)
+        leaves = rw (no, all, next-is, chain-next a link chunk s post (r .leads), st .link-is)
             (sym (replaced a pre (free s ∷ []) (live s ∷ []) post chunk (chunk + s) (r .arena) (st .at-is) (omega arith) (r .even, r .least, tt) refl));
       }
 
@@ -80,7 +82,7 @@ module _ (a : List ℕ) (pre : List Chunk) (s : ℕ) (post : List Chunk) (link c
       record {
         starts = rw yes (omega (arith, st .at-is));
         has = rw yes;
-        leaves = rw (yes, all, next-is, r .second-is)
+        leaves = rw (yes, all, next-is, chain-next a link chunk s post (r .leads))
             (sym (
             replaced-same a pre (free s ∷ []) (free (s - need) ∷ live need ∷ []) post chunk (chunk + s) (r .arena) (st .at-is) (omega arith)
             (omega (arith, d .even), omega arith, (d .even, d .least, tt)) (omega arith) refl));

@@ -24,20 +24,20 @@ pub record Below (n : ℕ) (ks : List Chunk) : Type 0 where
   pub blocks-fit : liveBlocks ks ≤ n
   pub chunks-fit : freeChunks ks ≤ n
 
-below : (ks : List Chunk) → Sizes ks → Below (total ks) ks
-below [] z = record { words-fit = omega arith; widest-fits = omega arith; blocks-fit = omega arith; chunks-fit = omega arith }
-below (free s ∷ ks) z = let b = below ks (z .2) in omega arith
-below (live s ∷ ks) z = let b = below ks (z .2) in omega arith
+pub counts-within : (ks : List Chunk) → Sizes ks → Below (total ks) ks
+counts-within [] z = record { words-fit = omega arith; widest-fits = omega arith; blocks-fit = omega arith; chunks-fit = omega arith }
+counts-within (free s ∷ ks) z = let b = counts-within ks (z .2) in omega arith
+counts-within (live s ∷ ks) z = let b = counts-within ks (z .2) in omega arith
 
 pub counts-small : (a : List ℕ) → sound a ≡ true → Below greatestLength (chunksOf a)
 counts-small a e =
     let r = sound-chunks a e .law in
-    let b = below (chunksOf a) (r .sizes) in
+    let b = counts-within (chunksOf a) (r .sizes) in
     omega arith
 
 -- ---- the free chunks, along their list
 
--- what the loop finds in a list
+-- what a list of free chunks comes to: its words, and its largest request
 abbrev wordsIn : List (ℕ × ℕ) → ℕ
 wordsIn [] = 0
 wordsIn ((c, s) ∷ list) = s + wordsIn list
@@ -46,20 +46,16 @@ abbrev largestIn : List (ℕ × ℕ) → ℕ
 largestIn [] = 0
 largestIn ((c, s) ∷ list) = max (s - headerWords) (largestIn list)
 
-words-listed : (c : ℕ) (ks : List Chunk) → wordsIn (freeList c ks) ≡ freeWords ks
-words-listed c [] = refl
-words-listed c (free s ∷ ks) = omega (arith, words-listed (c + s) ks)
-words-listed c (live s ∷ ks) = words-listed (c + s) ks
+-- of the free list that is what the rules count
+record Listed (c : ℕ) (ks : List Chunk) : Type 0 where
+  words-listed : wordsIn (freeList c ks) ≡ freeWords ks
+  largest-listed : largestIn (freeList c ks) ≡ widest ks - headerWords
+  chunks-listed : length (freeList c ks) ≡ freeChunks ks
 
-largest-listed : (c : ℕ) (ks : List Chunk) → largestIn (freeList c ks) ≡ widest ks - headerWords
-largest-listed c [] = refl
-largest-listed c (free s ∷ ks) = omega (arith, largest-listed (c + s) ks)
-largest-listed c (live s ∷ ks) = largest-listed (c + s) ks
-
-chunks-listed : (c : ℕ) (ks : List Chunk) → length (freeList c ks) ≡ freeChunks ks
-chunks-listed c [] = refl
-chunks-listed c (free s ∷ ks) = omega (arith, chunks-listed (c + s) ks)
-chunks-listed c (live s ∷ ks) = chunks-listed (c + s) ks
+listed : (c : ℕ) (ks : List Chunk) → Listed c ks
+listed c [] = record { words-listed = refl; largest-listed = refl; chunks-listed = refl }
+listed c (free s ∷ ks) = let l = listed (c + s) ks in omega arith
+listed c (live s ∷ ks) = let l = listed (c + s) ks in omega arith
 
 -- the loop has yet to follow the links from word `link` on, through `list`
 pub record CountingFree (a : List ℕ) (words largest chunks link : ℕ) (list : List (ℕ × ℕ)) : Type 0 where
@@ -72,11 +68,12 @@ pub record CountingFree (a : List ℕ) (words largest chunks link : ℕ) (list :
 pub free-begins : (a : List ℕ) → sound a ≡ true → CountingFree a 0 0 0 listWord (freeList firstChunk (chunksOf a))
 free-begins a e =
     let ks = chunksOf a in
+    let l = listed firstChunk ks in
     record {
       leads = chain a ks (sound-chunks a e);
-      all-words = omega (arith, words-listed firstChunk ks);
-      all-largest = omega (arith, largest-listed firstChunk ks);
-      all-chunks = omega (arith, chunks-listed firstChunk ks);
+      all-words = omega (arith, l .words-listed);
+      all-largest = omega (arith, l .largest-listed);
+      all-chunks = omega (arith, l .chunks-listed);
       small = counts-small a e;
     }
 

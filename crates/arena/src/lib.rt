@@ -183,13 +183,13 @@ pub fn report(a: &[u32]) -> Reported
     if let Gate::Shut(why) = arena {
         return Reported::Refused(why);
     }
-    let list = tally::count_free(a);
+    let listed = tally::count_free(a);
     let blocks = tally::count_live(a);
     Reported::Counts {
-        free_words: list.words as u32,
-        largest: list.largest as u32,
+        free_words: listed.words as u32,
+        largest: listed.largest as u32,
         live_blocks: blocks as u32,
-        free_chunks: list.chunks as u32,
+        free_chunks: listed.chunks as u32,
     }
 }
 

@@ -24,7 +24,7 @@ fn larger(x: usize, y: usize) -> usize
     x
 }
 
-// The free chunks of a sound arena: follows the links from the list's first word to link 0.
+// Counts the free chunks of a sound arena along their list. Each names the next, so no live chunk is looked at; link 0 ends it.
 pub(crate) fn count_free(a: &[u32]) -> FreeTally
     requires { ⌜ sound (now a) ≡ true ⌝ }
     ensures { λ r. ⌜ r ≡ freeTally (chunksOf (now (a .entry))) ⌝ }
@@ -47,7 +47,7 @@ pub(crate) fn count_free(a: &[u32]) -> FreeTally
     }
 }
 
-// The live blocks of a sound arena, which are on no list: passes every chunk.
+// Counts the live blocks of a sound arena. They are on no list, so every chunk is passed.
 pub(crate) fn count_live(a: &[u32]) -> usize
     requires { ⌜ sound (now a) ≡ true ⌝ }
     ensures { λ r. ⌜ r ≡ liveBlocks (chunksOf (now (a .entry))) ⌝ }

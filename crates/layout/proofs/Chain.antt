@@ -22,7 +22,7 @@ linked-chain a link c (live s ∷ ks) h z l f = linked-chain a link (c + s) ks (
 pub chain : (a : List ℕ) (ks : List Chunk) → Arena a ks → Chain a listWord (freeList firstChunk ks)
 chain a ks r = linked-chain a listWord firstChunk ks (r .linked) (r .law .sizes) (omega arith) (r .law .fills)
 
--- ---- along the chain: what the next word holds
+-- ---- along the chain: what word `link` holds
 
 -- where it is 0, none is left
 pub chain-ends : (a : List ℕ) (link : ℕ) (list : List (ℕ × ℕ)) → Chain a link list → getD a link 0 ≡ 0 → list ≡ []
@@ -62,3 +62,7 @@ pub chain-first : (a : List ℕ) (link c : ℕ) (ks : List Chunk) → Chain a li
 chain-first a link c [] h = h
 chain-first a link c (free s ∷ ks) h = h .0
 chain-first a link c (live s ∷ ks) h = chain-first a link (c + s) ks h
+
+-- and the second word of that one names the next
+pub chain-next : (a : List ℕ) (link c s : ℕ) (ks : List Chunk) → Chain a link (freeList c (free s ∷ ks)) → getD a (c + 1) 0 ≡ firstFree (c + s) ks 0
+chain-next a link c s ks h = chain-first a (c + 1) (c + s) ks (h .4)

@@ -7,7 +7,7 @@ use Prim.Native.Nat.{ℕ, _+_, _%_, _≤_, _<_}
 use native.Mathlib.Omega.{arith}
 use lib.ListN.{getD, set}
 use lib.Seq.{getD-set-other}
-use Rattle.layout.specs.Numbers.{firstChunk, leastSize, leastLength, greatestLength}
+use Rattle.layout.specs.Numbers.{firstChunk, leastSize, leastLength, greatestLength, liveMark}
 use Rattle.layout.specs.Chunks.{Chunk, free, live, size, total, firstFree, second}
 
 -- every size is even and not too small
@@ -96,6 +96,10 @@ pub firstFree-within : (c : ℕ) (ks : List Chunk) → firstFree c ks 0 ≤ c + 
 firstFree-within c [] = omega arith
 firstFree-within c (free s ∷ ks) = omega arith
 firstFree-within c (live s ∷ ks) = omega (arith, firstFree-within (c + s) ks)
+
+-- a link is never the mark of a live chunk
+pub link-unmarked : (c : ℕ) (ks : List Chunk) → c + total ks ≤ greatestLength → firstFree c ks 0 ≢ liveMark
+link-unmarked c ks h = omega (arith, firstFree-within c ks)
 
 -- ---- words in no header
 

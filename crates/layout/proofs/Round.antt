@@ -12,7 +12,7 @@ use Rattle.layout.specs.Chunks.{Chunk, free, live, total, firstFree, wri
 use Rattle.layout.specs.Walk.{Met, end, chunk, nothing, Walked, broken, whole, withChunk, isWhole, chunksIn, sizeFits, meet, walkFrom, walked, sound, chunksOf}
 use Rattle.layout.proofs.Bools.{both, lawful-bounds}
 use Rattle.layout.proofs.Walking.{from-end, from-nothing, from-chunk, fits-bounds}
-use Rattle.layout.proofs.Holds.{Sizes, Holds, Spaced, Lawful, firstFree-within}
+use Rattle.layout.proofs.Holds.{Sizes, Holds, Spaced, Lawful, link-unmarked}
 use Rattle.layout.proofs.Written.{Arena, written-arena, written-fixed}
 
 -- the words `a` from `c` on are those of `ks`, where the links want the next free chunk at `want`, and `joined` says that a free chunk ends at `c`
@@ -106,18 +106,16 @@ module _ (a : List ℕ) (c want : ℕ) (joined : Bool) where
       let z : (s % 2 ≡ 0) × (leastSize ≤ s) × Sizes ks = r .sizes in
       rw (ne-eqb c (length a) (omega arith), r .heads .0, true-fits (length a) c s (z .0, z .1, omega arith), r .heads .1)
 
-  -- a link is never the mark of a live chunk
   meet-free : (s : ℕ) (ks : List Chunk) → Laid a c want joined (free s ∷ ks) → length a ≤ greatestLength → meet a c want joined ≡ chunk (free s) (firstFree (c + s) ks 0) true
   unfolding meet
   meet-free s ks r n =
       let z : (s % 2 ≡ 0) × (leastSize ≤ s) × Sizes ks = r .sizes in
-      let w : firstFree (c + s) ks 0 ≤ c + s + total ks = firstFree-within (c + s) ks in
       rw (
         ne-eqb c (length a) (omega arith),
         r .heads .0,
         true-fits (length a) c s (z .0, z .1, omega arith),
         r .heads .1,
-        ne-eqb (firstFree (c + s) ks 0) liveMark (omega arith),
+        ne-eqb (firstFree (c + s) ks 0) liveMark (link-unmarked (c + s) ks (omega arith)),
         r .spaced .0,
         eq-eqb want c (r .names),
       )

@@ -1,4 +1,4 @@
--- `arena::report` meets its contract: what `check_arena` and `count` ensure says what `reportOn` is, and the counts of a sound arena are small.
+-- `arena::report` meets its contract: what `check_arena`, `count_free` and `count_live` ensure says what `reportOn` is, and the counts of a sound arena fit a word.
 use mathlib.Core.Path.{_≡_, refl, sym, _∙_}
 use borrow.Author.Needs.{needs}
 use native.Mathlib.Omega.{arith}

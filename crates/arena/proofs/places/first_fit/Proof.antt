@@ -1,19 +1,20 @@
 -- `arena::places::first_fit` meets its contract. The loop's invariant: from word `link` on the links lead through what is left of the free list.
 -- The measure is what is left of the words.
 use Prim.Native.Nat.{ℕ, _-_}
-use mathlib.Core.Path.{sym, _∙_}
+use mathlib.Core.Path.{refl, sym, _∙_}
 use mathlib.Core.List.{List, _∷_}
 use native.Mathlib.Omega.{arith}
 use lib.ListN.{length, getD}
 use borrow.Author.Needs.{needs}
 use borrow.Author.Tests.{le-leb, lt-leb}
 use Rattle.layout.proofs.Chain.{chain-ends, chain-goes-on}
+use Rattle.arena.specs.Spots.{fits}
 use Rattle.arena.proofs.Searching.{Seeking, seek-begins, seek-stops, seek-goes-on}
 use Rattle.arena.proofs.places.first_fit.Statement.{statement}
 use Rattle.arena.proofs.places.first_fit.Tie as tie
 
 abbrev Inv-loop : tie.InvT-loop
-Inv-loop a need link₀ link = (list : List (ℕ × ℕ)) × Seeking a need link list
+Inv-loop a need link₀ link = (list : List (ℕ × ℕ)) × Seeking a (fits need) link list
 
 abbrev μ-loop : tie.MeasureT-loop
 μ-loop a need link₀ link = length a - link
@@ -23,14 +24,14 @@ named : (c : tie.Else1 Inv-loop μ-loop)
     → let d = c .before .before .before in
     let a = d .before .before .args .a .now in
     let next = c .before .wide .result in
-    (rest : List (ℕ × ℕ)) × Seeking a (d .before .before .args .need) (d .loop .link) ((next, getD a next 0) ∷ rest)
+    (rest : List (ℕ × ℕ)) × Seeking a (fits (d .before .before .args .need)) (d .loop .link) ((next, getD a next 0) ∷ rest)
 named c =
     let (list, g) = c .before .before .before .loop .inv in
     let (rest, e) = chain-goes-on _ _ list (g .leads) (c .before .wide .result) (c .before .wide .ensures) (c .if1 .left) in
     (rest, rw e at g)
 
 loop-holds : tie.Need-loop-holds Inv-loop μ-loop
-loop-holds c = (_, seek-begins (c .before .args .a .now) (c .before .args .need) (c .before .pre))
+loop-holds c = (_, seek-begins (c .before .args .a .now) (fits (c .before .args .need)) (λ c s. refl) (c .before .pre))
 
 mul-wide : tie.Need-mul-wide Inv-loop μ-loop
 mul-wide c = search needs

@@ -32,11 +32,11 @@ named c =
     let (rest, e) = chain-goes-on _ link list (g .leads) (c .before .loop .chunk) n (c .loop-test .taken) in
     (link, rest, rw e at g)
 
--- where the loop's body began that has come so far
+-- the start of the turn that has come this far
 abbrev began : tie.After-larger Inv-loop μ-loop → tie.In-loop Inv-loop μ-loop
 began c = c .before .before .before .before
 
--- what it counts: the size of the chunk, and the largest request with it
+-- what the turn counts: the size of the chunk, and the largest request with it
 added : (c : tie.After-larger Inv-loop μ-loop)
     → let l = began c .before .loop in
     let size = getD (began c .before .before .before .before .before .args .a .now) (l .chunk) 0 in
