@@ -1,4 +1,4 @@
-"""Holds the program `cases` and the model to rows of some of the calls, worked out by hand with all words."""
+"""Holds the program `cases` and the model to rows of resize, the move, realloc and report, by hand with all words."""
 
 import driver
 import model
@@ -243,26 +243,40 @@ def short_list_rows():
 
 
 def long_list_rows():
-    """A report of the longest free list: every second of 4,095 chunks is free, and only the last has six words."""
+    """A report of the longest list, the last or the first of its 2,048 chunks the largest, and of 4,095 live blocks."""
     pairs = " | ".join(f"4 {start + 8} 1004 1005 | 4 live 1008 1009" for start in range(2, 16378, 8))
     yield reported(f"16384 2 | {pairs} | 6 0 1004 1005 1006 1007", (8194, 4, 2047, 2048))
+    pairs = " | ".join(f"4 live 1004 1005 | 4 {start + 8} 1008 1009" for start in range(12, 16380, 8))
+    yield reported(f"16384 2 | 6 12 1004 1005 1006 1007 | {pairs} | 4 live 1004 1005 | 4 0 1008 1009",
+                   (8194, 4, 2047, 2048))
+    blocks = "4 live 1004 1005 | " * 4094
+    yield reported(f"16384 0 | {blocks} 6 live 1004 1005 1006 1007", (0, 0, 4095, 0))
+
+
+def long_gap_rows():
+    """A report of two long free chunks: the larger one is the smaller in its low byte, and in its low 13 bits."""
+    before = f"16384 2 | 8196 8202 {counted(4, 8197)} | 4 live 9200 9201 | 8182 0 {counted(8204, 16383)}"
+    yield reported(before, (16378, 8194, 1, 2))
 
 
 def lost_list_rows():
-    """A list that leaves out a free chunk, goes round, or leads to a live chunk or elsewhere is damage.
+    """A list that leaves out a free chunk, falls, goes round, or leads to a live chunk or elsewhere is damage.
 
-    Of each row the list's first word and the links of the two free chunks are named; right are 2, 12 and 0. The last
-    row's length is odd, and that comes first.
+    Each row has word 1 and the links of the two free chunks; 2, 12 and 0 would be right. Then come two free
+    neighbours, rightly linked, and an odd length, whose reason comes first.
     """
-    for list_word, left, right in ((0, 12, 0), (12, 12, 0), (2, 0, 0), (2, 12, 2), (2, 12, 12), (2, 8, 0), (2, 14, 0)):
+    for list_word, left, right in ((0, 12, 0), (12, 12, 0), (12, 0, 2), (2, 0, 0), (2, 12, 2), (2, 12, 12), (2, 8, 0),
+                                   (2, 14, 0)):
         chunks = f"6 {left} 1004 1005 1006 1007 | 4 live 1010 1011 | 6 {right} 1014 1015 1016 1017"
         yield refused(REPORT, 0, 0, f"18 {list_word} | {chunks}", 2)
+    yield refused(REPORT, 0, 0, "14 2 | 4 6 1004 1005 | 4 0 1008 1009 | 4 live 1012 1013", 2)
     yield refused(REPORT, 0, 0, "15 8 | 6 live 1004 1005 1006 1007 | 4 0 1010 1011 | 3 live 1014", 1)
 
 
 ROWS = [live_neighbour_rows, short_neighbour_rows, passed_neighbour_rows, lowest_gap_rows, grow_rows, cut_rows,
         long_resize_rows, shorter_move_rows, long_move_rows, equal_move_rows, gap_above_rows, swallowed_header_rows,
-        refused_move_rows, order_rows, report_rows, short_list_rows, long_list_rows, lost_list_rows]
+        refused_move_rows, order_rows, report_rows, short_list_rows, long_list_rows,
+        long_gap_rows, lost_list_rows]
 
 
 def compare(chosen):

@@ -104,9 +104,11 @@ def cases_on(random, arena, call):
 
 
 def long_cases(random, count):
-    """The three calls on so many arenas of long blocks and gaps: some moves copy hundreds of words, some thousands."""
+    """The three calls and a report on so many arenas of long blocks and gaps: some moves copy thousands of words."""
     for _ in range(count):
-        yield from cases_on(random, arenas.long_arena(random), cases.REALLOC)
+        arena = arenas.long_arena(random)
+        yield from cases_on(random, arena, cases.REALLOC)
+        yield cases.Case(cases.REPORT, 0, 0, arena.words)
 
 
 def full_cases(random):

@@ -20,7 +20,10 @@ def layouts(start, length, after_free):
 
 
 def cases_on(length, pieces):
-    """A report, and every request, from 0 to one too large, of an arena of these chunks and of each of them."""
+    """On an arena of these chunks: a report, a free of each chunk, and every request from 0 to one too large.
+
+    The requests are made of the arena and of each of its chunks, the free ones too.
+    """
     words = [1000 + at for at in range(length)]
     arenas.store_headers(words, pieces)
     for asked in range(length - 2):

@@ -175,38 +175,43 @@ def store_size_early():
     refuse_resize(wrongly)
 
 
-def count_in_report(counted, header=model.HEADER):
-    """Reports only what `counted` leaves of the sizes along the free list, and takes `header` off the largest."""
+def count_in_report(counted=list, largest=max, header=model.HEADER):
+    """Reports what `counted` leaves of the sizes along the free list, and the `largest` of these less `header`."""
     def report_rule(words):
         live = model.live_chunks(words)
         sizes = counted([size for start, size in model.gaps_between(live, len(words))])
-        largest = max(sizes) - header if sizes else 0
-        return (sum(sizes), largest, len(live), len(sizes)), words
+        request = largest(sizes) - header if sizes else 0
+        return (sum(sizes), request, len(live), len(sizes)), words
 
     model.report_rule = report_rule
 
 
 def leave_list_early():
     """Leaves the free list one link early in a report."""
-    count_in_report(lambda sizes: sizes[:-1])
+    count_in_report(counted=lambda sizes: sizes[:-1])
 
 
 def leave_long_list():
     """Follows no more than 255 links of the free list in a report."""
-    count_in_report(lambda sizes: sizes[:255])
+    count_in_report(counted=lambda sizes: sizes[:255])
+
+
+def last_for_largest():
+    """Takes the last chunk of the free list for the largest in a report."""
+    count_in_report(largest=lambda sizes: sizes[-1])
 
 
 def largest_with_header():
     """Reports the largest free chunk with its header."""
-    count_in_report(lambda sizes: sizes, header=0)
+    count_in_report(header=0)
 
 
 RULE_FAULTS = {"tail": cut_tail_of_two, "cut": cut_tail_in_place, "believe": believe_words_before,
                "clear": clear_swallowed_header, "early": free_before_move, "less": copy_one_word_less,
                "all": copy_all_old_words, "asked": copy_words_asked, "byte": copy_count_of_a_byte,
                "stays": stay_in_move, "moves": move_in_resize, "never": never_move, "order": would_move_first,
-               "lacks": no_room_to_resize, "stores": store_size_early, "link": leave_list_early,
-               "links": leave_long_list, "header": largest_with_header}
+               "lacks": no_room_to_resize, "stores": store_size_early, "lastlink": leave_list_early,
+               "manylinks": leave_long_list, "last": last_for_largest, "header": largest_with_header}
 
 
 def board_replies():

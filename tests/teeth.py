@@ -21,21 +21,21 @@ BETWEEN_LIVE = [16, 2, 6, 0, 71, 72, 73, 74, 4, 4294967295, 75, 76, 4, 429496729
 # What a stand-in can do wrong in a resize, a move, or the realloc that is made of them.
 ANOTHER_LENGTH = ["tail", "cut", "early", "less", "all", "asked", "stays", "moves", "never", "order", "lacks", "stores"]
 
-# What it can do wrong in a report.
-ANOTHER_COUNT = ["link", "header"]
+# What it can do wrong in any report. (A list followed for 255 links only, "manylinks", takes a longer list to be seen.)
+ANOTHER_COUNT = ["lastlink", "last", "header"]
 
 # The drivers, how much each compares here, and the faults of a stand-in for a program that it has to see.
 FAULTS = [
     ("document_rows", 1, "board", ["digit", "missing", "extra", "tail", *ANOTHER_COUNT]),
-    ("document_rows", 1, "cases", ["word", "missing", "extra"]),
-    ("call_rows", 1, "cases", ["word", "missing", "extra", "believe", "clear", "byte", "links", *ANOTHER_COUNT,
-                              *ANOTHER_LENGTH]),
+    ("document_rows", 1, "cases", ["word", "missing", "extra", *ANOTHER_COUNT]),
+    ("call_rows", 1, "cases", ["word", "missing", "extra", "believe", "clear", "byte", "manylinks", *ANOTHER_COUNT,
+                               *ANOTHER_LENGTH]),
     ("small_arenas", 1, "cases", ["word", "missing", "extra", "clear", *ANOTHER_COUNT, *ANOTHER_LENGTH]),
-    ("pages", 1, "board", ["digit", "missing", "tail"]),
+    ("pages", 1, "board", ["digit", "missing", "tail", *ANOTHER_COUNT]),
     ("random_lines", 3000, "board", ["digit", "missing", "extra", "tail", "early", "never", "late", *ANOTHER_COUNT]),
-    ("damaged_arenas", 3000, "cases", ["word", "missing", "extra", "believe", "clear", *ANOTHER_COUNT,
+    ("damaged_arenas", 3000, "cases", ["word", "missing", "extra", "believe", "clear", "manylinks", *ANOTHER_COUNT,
                                        *ANOTHER_LENGTH]),
-    ("full_board", 1, "board", ["digit", "links"]),
+    ("full_board", 1, "board", ["digit", "manylinks"]),
 ]
 
 

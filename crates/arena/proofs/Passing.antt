@@ -25,6 +25,7 @@ all-left a e =
     record { heads = r .linked .1; sizes = r .law .sizes; fills = r .law .fills; most = r .law .most }
 
 module _ (a : List ℕ) (chunk : ℕ) where
+  -- the first of them is passed
   pub past : (k : Chunk) (ks : List Chunk) → Left a chunk (k ∷ ks) → Left a (chunk + size k) ks
   past k ks l = record { heads = l .heads .2; sizes = l .sizes .2; fills = omega arith; most = l .most }
 

@@ -54,7 +54,7 @@ module _ (a : List ℕ) (b link chunk : ℕ) where
 
 -- ---- along the free list, for the first chunk that passes a test
 
--- the first of a list that passes a test, as a search answers it; word `link` names the first of all
+-- the first of a list that passes a test, as a search answers it, with the word that names it; word `link` names the first of the list
 abbrev firstOf : (ℕ → Chunk → Bool) → ℕ → List (ℕ × ℕ) → Place
 firstOf test link [] = Nowhere
 firstOf test link ((c, s) ∷ list) = cond (test c (free s)) (At link c) (firstOf test (c + 1) list)

@@ -18,6 +18,7 @@ use Rattle.arena.proofs.Passing.{Left, all-left, past}
 
 -- ---- no count is more than the words of the chunks counted
 
+-- each of the report's counts of `ks` is at most `n`
 pub record Below (n : ℕ) (ks : List Chunk) : Type 0 where
   pub words-fit : freeWords ks ≤ n
   pub widest-fits : widest ks ≤ n
@@ -29,6 +30,7 @@ counts-within [] z = record { words-fit = omega arith; widest-fits = omega arith
 counts-within (free s ∷ ks) z = let b = counts-within ks (z .2) in omega arith
 counts-within (live s ∷ ks) z = let b = counts-within ks (z .2) in omega arith
 
+-- so the counts of a sound arena are at most the greatest length, and fit a word
 pub counts-small : (a : List ℕ) → sound a ≡ true → Below greatestLength (chunksOf a)
 counts-small a e =
     let r = sound-chunks a e .law in
@@ -57,7 +59,7 @@ listed c [] = record { words-listed = refl; largest-listed = refl; chunks-listed
 listed c (free s ∷ ks) = let l = listed (c + s) ks in omega arith
 listed c (live s ∷ ks) = let l = listed (c + s) ks in omega arith
 
--- the loop has yet to follow the links from word `link` on, through `list`
+-- the loop has yet to follow the links from word `link` on, through `list`; what it has counted, with these, makes the counts of all free chunks
 pub record CountingFree (a : List ℕ) (words largest chunks link : ℕ) (list : List (ℕ × ℕ)) : Type 0 where
   pub leads : Chain a link list
   pub all-words : words + wordsIn list ≡ freeWords (chunksOf a)
@@ -98,6 +100,7 @@ free-ends a words largest chunks link g =
 
 -- ---- the live blocks, past every chunk
 
+-- the loop has yet to pass `ks`; `blocks`, with the live ones of these, makes all live blocks
 pub record CountingLive (a : List ℕ) (blocks chunk : ℕ) (ks : List Chunk) : Type 0 where
   pub left : Left a chunk ks
   pub all-blocks : blocks + liveBlocks ks ≡ liveBlocks (chunksOf a)

@@ -1,4 +1,4 @@
--- What the functions inside the crate say to each other. No public promise cites these files.
+-- What the functions inside the crate say to each other. No public contract cites these files.
 pub mod Places
 pub mod Targets
 pub mod Ways

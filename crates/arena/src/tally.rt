@@ -24,7 +24,7 @@ fn larger(x: usize, y: usize) -> usize
     x
 }
 
-// Counts the free chunks of a sound arena along their list. Each names the next, so no live chunk is looked at; link 0 ends it.
+// Counts the free chunks of a sound arena by following their list: word 1 names the first, each names the next, and 0 ends the list. No live chunk is looked at.
 pub(crate) fn count_free(a: &[u32]) -> FreeTally
     requires { ⌜ sound (now a) ≡ true ⌝ }
     ensures { λ r. ⌜ r ≡ freeTally (chunksOf (now (a .entry))) ⌝ }

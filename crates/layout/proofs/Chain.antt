@@ -12,6 +12,7 @@ use Rattle.layout.proofs.Holds.{Sizes}
 use Rattle.layout.proofs.Linked.{Linked}
 use Rattle.layout.proofs.Written.{Arena}
 
+-- of chunks that begin at word `c` and end the arena: the links from word `link` on, which names the first free one, lead through their free list
 linked-chain : (a : List ℕ) (link c : ℕ) (ks : List Chunk) → Linked a link c ks 0 → Sizes ks → link < c → c + total ks ≡ length a → Chain a link (freeList c ks)
 linked-chain a link c [] h z l f = h .0
 linked-chain a link c (free s ∷ ks) h z l f =
@@ -46,6 +47,7 @@ chain-only a link ((c, s) ∷ list) ((d, t) ∷ other) h k =
 
 -- ---- in the middle of the chain: the word that names the first free chunk after `pre`
 
+-- a chain through the free chunks of `pre ++ post` is, from that word on, a chain through those of `post`
 behind : (a : List ℕ) (base c : ℕ) (pre post : List Chunk) (d : ℕ) → d ≡ c + total pre
     → Chain a base (freeList c (pre ++ post)) → Chain a (linkAt base c pre) (freeList d post)
 behind a base c [] post d e h = subst (λ (n : ℕ). Chain a base (freeList n post)) (omega arith) h

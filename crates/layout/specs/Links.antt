@@ -19,7 +19,7 @@ freeList c [] = []
 freeList c (free s ∷ ks) = (c, s) ∷ freeList (c + s) ks
 freeList c (live s ∷ ks) = freeList (c + s) ks
 
--- the links from word `link` on lead through `list`, starts and sizes, and end there: a link names the start of a chunk above it, whose header lies in the arena; the second word of that chunk is the next link; the last link is 0
+-- the links from word `link` on lead through `list`, a start and a size each, and end there: word `link` names a chunk above it whose header lies in the arena; the first word of that chunk is its size, the second the next link; the last link is 0
 abbrev pub Chain : List ℕ → ℕ → List (ℕ × ℕ) → Type 0
 Chain a link [] = getD a link 0 ≡ 0
 Chain a link ((c, s) ∷ list) = (getD a link 0 ≡ c) × (getD a c 0 ≡ s) × (link < c) × (c + 1 < length a) × Chain a (c + 1) list
