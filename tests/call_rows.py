@@ -94,26 +94,60 @@ def grow_rows():
 
 
 def cut_rows():
-    """A tail of four is cut off, one of two or none is not; before a free chunk a tail joins it, but for one of two."""
+    """A tail of four is cut off, one of two or none is not, whether a live chunk comes after it or the end."""
     before = "18 0 | 12 live 1004 1005 1006 1007 1008 1009 1010 1011 1012 1013 | 4 live 1016 1017"
     cut = "18 10 | 8 live 1004 1005 1006 1007 1008 1009 | 4 0 1012 1013 | 4 live 1016 1017"
-    yield done(RESIZE, 4, 5, before, (4, 6), cut)
-    yield done(RESIZE, 4, 7, before, (4, 10), before)
-    yield done(RESIZE, 4, 10, before, (4, 10), before)
-    joined = "18 6 | 4 live 1004 1005 | 12 0 1008 1009 1010 1011 6 0 1014 1015 1016 1017"
-    yield done(RESIZE, 4, 2, BESIDE_FREE, (4, 2), joined)
-    yield done(RESIZE, 4, 5, BESIDE_FREE, (4, 8), BESIDE_FREE)
+    at_end = "12 2 | 4 0 1004 1005 | 6 live 1008 1009 1010 1011"
+    for call in (RESIZE, REALLOC):
+        yield done(call, 4, 5, before, (4, 6), cut)
+        yield done(call, 4, 7, before, (4, 10), before)
+        yield done(call, 4, 10, before, (4, 10), before)
+        yield done(call, 8, 2, at_end, (8, 4), at_end)
+        yield done(call, 8, 1, at_end, (8, 4), at_end)
+
+
+def given_up_rows():
+    """Before a free chunk all words over go to it, two as well as six; its old header keeps both its words."""
+    two = "18 10 | 8 live 1004 1005 1006 1007 1008 1009 | 8 0 6 0 1014 1015 1016 1017"
+    six = "18 6 | 4 live 1004 1005 | 12 0 1008 1009 1010 1011 6 0 1014 1015 1016 1017"
+    least = "14 8 | 6 live 1004 1005 1006 1007 | 6 0 4 0 1012 1013"
+    for call in (RESIZE, REALLOC):
+        yield done(call, 4, 5, BESIDE_FREE, (4, 6), two)
+        yield done(call, 4, 6, BESIDE_FREE, (4, 6), two)
+        yield done(call, 4, 7, BESIDE_FREE, (4, 8), BESIDE_FREE)
+        yield done(call, 4, 8, BESIDE_FREE, (4, 8), BESIDE_FREE)
+        yield done(call, 4, 2, BESIDE_FREE, (4, 2), six)
+        yield done(call, 4, 4, "14 10 | 8 live 1004 1005 1006 1007 1008 1009 | 4 0 1012 1013", (4, 4), least)
+
+
+def list_place_rows():
+    """The link that named the free chunk names its new start, be it the first, the middle or the last of the list."""
+    before = ("36 8 | 6 live 1004 1005 1006 1007 | 4 18 1010 1011 | 6 live 1014 1015 1016 1017 | 4 28 1020 1021"
+              " | 6 live 1024 1025 1026 1027 | 4 0 1030 1031 | 4 live 1034 1035")
+    first = ("36 6 | 4 live 1004 1005 | 6 18 4 18 1010 1011 | 6 live 1014 1015 1016 1017 | 4 28 1020 1021"
+             " | 6 live 1024 1025 1026 1027 | 4 0 1030 1031 | 4 live 1034 1035")
+    middle = ("36 8 | 6 live 1004 1005 1006 1007 | 4 16 1010 1011 | 4 live 1014 1015 | 6 28 4 28 1020 1021"
+              " | 6 live 1024 1025 1026 1027 | 4 0 1030 1031 | 4 live 1034 1035")
+    last = ("36 8 | 6 live 1004 1005 1006 1007 | 4 18 1010 1011 | 6 live 1014 1015 1016 1017 | 4 26 1020 1021"
+            " | 4 live 1024 1025 | 6 0 4 0 1030 1031 | 4 live 1034 1035")
+    for call in (RESIZE, REALLOC):
+        yield done(call, 4, 2, before, (4, 2), first)
+        yield done(call, 14, 2, before, (14, 2), middle)
+        yield done(call, 24, 1, before, (24, 2), last)
+        yield done(call, 34, 1, before, (34, 2), before)
 
 
 def long_resize_rows():
-    """In the longest arena a block of 8,190 words grows to 12,000, is cut to 100, or kept, beside a free chunk."""
+    """In the longest arena a block of 8,190 words beside a free chunk grows, is cut to 100, cut by two, or kept."""
     before = f"16384 8194 | 8192 live {counted(4, 8193)} | 8190 0 {counted(8196, 16383)}"
     grown = (f"16384 12004 | 12002 live {counted(4, 8193)} 8190 0 {counted(8196, 12003)}"
              f" | 4380 0 {counted(12006, 16383)}")
     joined = f"16384 104 | 102 live {counted(4, 103)} | 16280 0 {counted(106, 8193)} 8190 0 {counted(8196, 16383)}"
     yield done(RESIZE, 4, 12000, before, (4, 12000), grown)
     yield done(RESIZE, 4, 100, before, (4, 100), joined)
-    yield done(RESIZE, 4, 8187, before, (4, 8190), before)
+    two = f"16384 8192 | 8190 live {counted(4, 8191)} | 8192 0 8190 0 {counted(8196, 16383)}"
+    yield done(RESIZE, 4, 8187, before, (4, 8188), two)
+    yield done(RESIZE, 4, 8189, before, (4, 8190), before)
 
 
 def shorter_move_rows():
@@ -274,9 +308,9 @@ def lost_list_rows():
 
 
 ROWS = [live_neighbour_rows, short_neighbour_rows, passed_neighbour_rows, lowest_gap_rows, grow_rows, cut_rows,
-        long_resize_rows, shorter_move_rows, long_move_rows, equal_move_rows, gap_above_rows, swallowed_header_rows,
-        refused_move_rows, order_rows, report_rows, short_list_rows, long_list_rows,
-        long_gap_rows, lost_list_rows]
+        given_up_rows, list_place_rows, long_resize_rows, shorter_move_rows, long_move_rows, equal_move_rows,
+        gap_above_rows, swallowed_header_rows, refused_move_rows, order_rows, report_rows, short_list_rows,
+        long_list_rows, long_gap_rows, lost_list_rows]
 
 
 def compare(chosen):

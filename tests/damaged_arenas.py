@@ -30,6 +30,11 @@ WAYS = {"alloc": (-1, 0), "free": (-1, 0, 1),
         "resize kept": (0,), "resize cut": (0, 1), "resize grown": (-1, 0),
         "relocate longer": (-2, -1, 0, 1), "relocate shorter": (-2, -1, 0, 1), "relocate equal": (-2, -1, 0, 1)}
 
+# And for a block whose own words are enough: how many are over, and what comes right after it.
+OVER = ("none", "two", "four or more")
+AFTER = ("a live chunk", "the end", "the only free chunk", "the last free chunk", "a free chunk before others")
+SHRINKS = [("over", over, after) for over in OVER for after in AFTER]
+
 # And for a move every place of the gap that it takes, seen from the old block, and how much of it is taken.
 GAPS = [(place, much) for place in ("right below", "right above", "elsewhere") for much in ("whole", "in part")]
 
@@ -132,6 +137,28 @@ def way_of(case, answer):
     return f"{name} {way(case.block, old_granted, block, granted)}"
 
 
+def shrunk(case):
+    """How many words are over where a block's own are enough, and what comes right after it; else nothing."""
+    start = case.block - model.HEADER
+    end = start + case.words[start]
+    over = case.words[start] - model.need_of(case.asked, len(case.words))
+    if over < 0:
+        return
+    yield "over", OVER[min(over // 2, 2)], comes_after(case.words, end)
+
+
+def comes_after(words, end):
+    """What begins at a chunk's end, in a sound arena; a free chunk with its place in the list."""
+    free = [gap for gap, room in model.gaps_between(model.live_chunks(words), len(words))]
+    if end == len(words):
+        return "the end"
+    if end not in free:
+        return "a live chunk"
+    if len(free) == 1:
+        return "the only free chunk"
+    return "the last free chunk" if end == free[-1] else "a free chunk before others"
+
+
 def gap_taken(case, answer):
     """Which gap a move took, seen from the old block, and how much of it."""
     block, granted = answer.fields
@@ -157,6 +184,8 @@ def met_by(case, answer):
     if case.call in (cases.ALLOC, cases.FREE, *cases.TOGETHER) and answer.code == model.DONE:
         free_chunks = [model.report(words).fields[3] for words in (case.words, answer.words)]
         yield way_of(case, answer), "free chunks", free_chunks[1] - free_chunks[0]
+    if case.call in (cases.RESIZE, cases.REALLOC) and answer.code == model.DONE:
+        yield from shrunk(case)
     if case.call == cases.RELOCATE and answer.code == model.DONE:
         yield gap_taken(case, answer)
         yield "words copied", words_copied(case, answer).bit_length()
@@ -178,11 +207,11 @@ def unfinished(random, number):
 
 
 def wanted():
-    """What a run has to meet: codes of one call and of three together, ways to be done, gaps taken, kinds of view."""
+    """What a run has to meet: codes of one call and of three together, ways to be done, shrinks, gaps taken, views."""
     codes = [(name, "code", code) for name, codes in CODES.items() for code in codes]
     ways = [(way, "free chunks", change) for way, changes in WAYS.items() for change in changes]
     together = [("together", codes) for codes in cases.CODES_TOGETHER]
-    return [*codes, *ways, *together, *GAPS, *COPIED, *PARTS]
+    return [*codes, *ways, *together, *SHRINKS, *GAPS, *COPIED, *PARTS]
 
 
 def compare(chosen):

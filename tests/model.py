@@ -1,4 +1,4 @@
-"""The rules for one arena, document 01's and Item 1's of document 02: what each call answers, and every word it leaves.
+"""The rules for one arena, document 01's with Items 1 and 3 of document 02: answers, and every word left.
 
 The model shares nothing with the library. It reads an arena as the stretches of words that are live; what lies
 between them is free. A call edits the live stretches, and the headers are stored anew. A chunk is a pair here: the
@@ -147,6 +147,11 @@ def free_rule(words, block):
     return (), stored(words, live)
 
 
+def kept_of(size, room, need):
+    """How much of its room a block keeps: a gap right above takes all words that a shrink leaves over, however few."""
+    return need if need <= size < room else taken_from(room, need)
+
+
 def stayed(words, block, asked):
     """The block is cut, kept or grown where it stands; None where it can't have its need there."""
     live = live_chunks(words)
@@ -157,7 +162,7 @@ def stayed(words, block, asked):
     room = above - start
     if need > room:
         return None
-    live[place] = start, taken_from(size if need <= size else room, need)
+    live[place] = start, kept_of(size, room, need)
     return block_and_grant(*live[place]), stored(words, live)
 
 

@@ -110,6 +110,7 @@ class Pupil:
             self.granted[block] = granted
         if request == b"04":
             self.met[way(old_block, old_granted, block, granted)] += 1
+            self.met[two_over(old_block, old_granted, block, granted, int(line[6:10], 16))] += 1
 
 
 def way(old_block, old_granted, block, granted):
@@ -117,6 +118,13 @@ def way(old_block, old_granted, block, granted):
     if block != old_block:
         return "moved"
     return "kept" if granted == old_granted else "grown" if granted > old_granted else "cut"
+
+
+def two_over(old_block, old_granted, block, granted, asked):
+    """What became of two words that a shorter request left over: only a gap right above takes so few."""
+    if block != old_block or old_granted - asked - asked % 2 != 2:
+        return "not two over"
+    return "two kept" if granted == old_granted else "two given up"
 
 
 def mistyped(random, line):

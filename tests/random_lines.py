@@ -16,7 +16,7 @@ TYPED_LINES = 400
 
 # What the runs must have met to mean anything.
 CODES = {"01": (0, 1), "02": (0, 1, 4, 5, 6), "03": (0, 1, 3), "04": (0, 1, 3, 4, 5, 6), "05": (0, 1), "00": (7,)}
-WAYS = ("kept", "cut", "grown", "moved")
+WAYS = ("kept", "cut", "grown", "moved", "two kept", "two given up")
 
 # How long the pieces are at most, in one run after the other.
 PIECES = [1, 3, 20, 500, 5000, 70000, 10**7]

@@ -46,6 +46,49 @@ def cut_tail_in_place():
     model.stayed = stayed
 
 
+def keep_two_words():
+    """Keeps two words that are over in a shrink, beside a gap too."""
+    def kept_of(size, room, need):
+        return model.taken_from(size if need <= size else room, need)
+
+    model.kept_of = kept_of
+
+
+def spoil_shrink(spoil):
+    """Spoils the words once a block gave some to the gap right above it.
+
+    `spoil` is given them, the word that names this gap, and where the gap began.
+    """
+    true_stayed = model.stayed
+
+    def stayed(words, block, asked):
+        outcome = true_stayed(words, block, asked)
+        end = block + model.size(words, block).fields[0]
+        starts = [start for start, size in model.gaps_between(model.live_chunks(words), len(words))]
+        if outcome and outcome[0][1] < end - block and end in starts:
+            place = starts.index(end)
+            spoil(outcome[1], starts[place - 1] + 1 if place > 0 else 1, end)
+        return outcome
+
+    model.stayed = stayed
+
+
+def leave_link():
+    """Leaves the link at the old start of a gap that took words of the block before it."""
+    def spoil(after, link, end):
+        after[link] = end
+
+    spoil_shrink(spoil)
+
+
+def clear_old_header():
+    """Clears the old header of a gap that took words of the block before it."""
+    def spoil(after, link, end):
+        after[end:end + model.HEADER] = [0] * model.HEADER
+
+    spoil_shrink(spoil)
+
+
 def believe_words_before():
     """Believes the two words before b, and not the walk."""
     true_size = model.size_rule
@@ -206,7 +249,8 @@ def largest_with_header():
     count_in_report(header=0)
 
 
-RULE_FAULTS = {"tail": cut_tail_of_two, "cut": cut_tail_in_place, "believe": believe_words_before,
+RULE_FAULTS = {"tail": cut_tail_of_two, "cut": cut_tail_in_place, "two": keep_two_words, "link": leave_link,
+               "wipe": clear_old_header, "believe": believe_words_before,
                "clear": clear_swallowed_header, "early": free_before_move, "less": copy_one_word_less,
                "all": copy_all_old_words, "asked": copy_words_asked, "byte": copy_count_of_a_byte,
                "stays": stay_in_move, "moves": move_in_resize, "never": never_move, "order": would_move_first,

@@ -19,7 +19,8 @@ CASES = [cases.Case(cases.ALLOC, 0, 2, SOUND), cases.Case(cases.VIEW, 4, 0, SOUN
 BETWEEN_LIVE = [16, 2, 6, 0, 71, 72, 73, 74, 4, 4294967295, 75, 76, 4, 4294967295, 77, 78]
 
 # What a stand-in can do wrong in a resize, a move, or the realloc that is made of them.
-ANOTHER_LENGTH = ["tail", "cut", "early", "less", "all", "asked", "stays", "moves", "never", "order", "lacks", "stores"]
+ANOTHER_LENGTH = ["tail", "cut", "two", "link", "wipe", "early", "less", "all", "asked", "stays", "moves", "never",
+                  "order", "lacks", "stores"]
 
 # What it can do wrong in any report. (A list followed for 255 links only, "manylinks", takes a longer list to be seen.)
 ANOTHER_COUNT = ["lastlink", "last", "header"]
@@ -32,7 +33,8 @@ FAULTS = [
                                *ANOTHER_LENGTH]),
     ("small_arenas", 1, "cases", ["word", "missing", "extra", "clear", *ANOTHER_COUNT, *ANOTHER_LENGTH]),
     ("pages", 1, "board", ["digit", "missing", "tail", *ANOTHER_COUNT]),
-    ("random_lines", 3000, "board", ["digit", "missing", "extra", "tail", "early", "never", "late", *ANOTHER_COUNT]),
+    ("random_lines", 3000, "board", ["digit", "missing", "extra", "tail", "two", "link", "early", "never", "late",
+                                     *ANOTHER_COUNT]),
     ("damaged_arenas", 3000, "cases", ["word", "missing", "extra", "believe", "clear", "manylinks", *ANOTHER_COUNT,
                                        *ANOTHER_LENGTH]),
     ("full_board", 1, "board", ["digit", "manylinks"]),

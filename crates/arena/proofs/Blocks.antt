@@ -19,6 +19,10 @@ pub record BlockAt (a : List ℕ) (b : ℕ) (pre : List Chunk) (s : ℕ) (post :
   pub same : chunksOf a ≡ pre ++ live s ∷ post
   pub number-is : firstChunk + total pre + headerWords ≡ b
 
+-- in a sound arena its chunk and those behind it have lawful sizes
+pub block-sizes : (a : List ℕ) (b : ℕ) (pre : List Chunk) (s : ℕ) (post : List Chunk) → sound a ≡ true → BlockAt a b pre s post → Sizes (live s ∷ post)
+block-sizes a b pre s post e is = sizes-split pre (live s ∷ post) (rw (is .same) at (sound-chunks a e .law .sizes)) .1
+
 -- the lowest free chunk of `need` words or more is that of `s` words between `pre` and `post`
 pub record GapAt (a : List ℕ) (need : ℕ) (pre : List Chunk) (s : ℕ) (post : List Chunk) : Type 0 where
   pub lowest-is : firstFit need (chunksOf a) ≡ at pre (free s) post

@@ -1,55 +1,34 @@
--- Sentences of the rules that the calls' definitions say only together: where resize and realloc write nothing, where a view is empty, and that a resize keeps the block's number and a move does not.
+-- Sentences of the rules that the calls' definitions say only together: where a view is empty, and that a resize keeps the block's number and a move does not.
 use mathlib.Core.Path.{_≡_, refl, sym, ap, _∙_}
 use mathlib.Core.Logic.{_≢_, _↔_}
-use mathlib.Core.Bool.{true, false}
+use mathlib.Core.Bool.{true}
 use mathlib.Core.List.{List, [], _∷_, _++_}
-use Prim.Native.Nat.{ℕ, _+_, _-_, _≤_, _<_}
+use Prim.Native.Nat.{ℕ, _+_, _-_}
 use native.Mathlib.Omega.{arith}
 use lib.ListN.{length, getD, take, drop, length-take, length-drop}
-use borrow.Author.Tests.{le-leb, lt-leb}
-use Rattle.layout.specs.Numbers.{firstChunk, headerWords, leastSplit, need}
-use Rattle.layout.specs.Chunks.{Chunk, free, live, total, written}
+use Rattle.layout.specs.Numbers.{firstChunk, headerWords, need}
+use Rattle.layout.specs.Chunks.{Chunk, free, live, total}
 use Rattle.layout.specs.Walk.{sound}
-use Rattle.layout.specs.declared.Reason.{Reason}
-use Rattle.layout.specs.declared.Reason.the-variants.{NoRoom, WouldMove}
-use Rattle.layout.proofs.Holds.{Sizes, sizes-split, total-append}
+use Rattle.layout.proofs.Holds.{total-append}
 use Rattle.layout.proofs.Reasons.{number-positive}
-use Rattle.layout.proofs.Written.{Arena, written-fixed}
+use Rattle.layout.proofs.Written.{Arena}
 use Rattle.layout.proofs.Round.{sound-chunks}
 use Rattle.arena.specs.Answers.{Outcome}
-use Rattle.arena.specs.Rules.{orElse, shrink, grow, move, grantedAt, Regrant}
-use Rattle.arena.specs.Calls.{regrantBy, resizeOn, relocateOn, reallocOn, sizeOn, viewOn}
-use Rattle.arena.proofs.Joining.{joined-spaced}
-use Rattle.arena.proofs.Blocks.{BlockAt, block-held}
-use Rattle.arena.proofs.Causes.{Request, BlockRefused, ResizeRefused, RelocateRefused}
+use Rattle.arena.specs.Calls.{resizeOn, relocateOn, sizeOn, viewOn}
+use Rattle.arena.proofs.Blocks.{BlockAt, block-sizes}
+use Rattle.arena.proofs.Causes.{BlockRefused, ResizeRefused, RelocateRefused}
 use Rattle.arena.proofs.Cases.{Case, refuses, does, Measures, measures, size-case}
 use Rattle.arena.proofs.Moving.{Order, gap-above, gap-below, order, cut-numbers}
-use Rattle.arena.proofs.Regranting.{Resizes, shrinks, grows, Relocates, moves, resize-case, relocate-case}
-use Rattle.arena.proofs.Gates.{sound-gate, request-gate}
+use Rattle.arena.proofs.Regranting.{Resizes, resizes, Relocates, moves, resize-case, relocate-case}
 
 module _ (a : List ℕ) (b : ℕ) (pre : List Chunk) (s : ℕ) (post : List Chunk) (e : sound a ≡ true) (is : BlockAt a b pre s post) where
   arena : Arena a (pre ++ live s ∷ post)
   arena = rw (is .same) at (sound-chunks a e)
 
-  -- a call that tries way 1 before anything else
-  way-1-keeps : (why : Reason) (rest : Regrant) (n : ℕ) → Request a n → need n ≤ s → s - need n < leastSplit
-      → regrantBy why (λ b need spot new a. orElse (shrink b need spot a) (rest b need spot new a)) a b n .words ≡ a
-  unfolding regrantBy
-  way-1-keeps why rest n r enough few =
-      rw (sound-gate a e, block-held a b pre s post e is, request-gate a n r, le-leb (need n) s enough, lt-leb leastSplit (s - need n) few)
-      (ap (λ (ks : List Chunk). written ks a) (joined-spaced false _ (arena .law .spaced)) ∙ written-fixed (pre ++ live s ∷ post) a arena)
-
-  -- "If 0 or 2 are over, nothing is written."
-  pub resize-keeps : (n : ℕ) → Request a n → need n ≤ s → s - need n < leastSplit → resizeOn a b n .words ≡ a
-  resize-keeps = way-1-keeps WouldMove (λ b need spot new a. grow b need spot a)
-
-  pub realloc-keeps : (n : ℕ) → Request a n → need n ≤ s → s - need n < leastSplit → reallocOn a b n .words ≡ a
-  realloc-keeps = way-1-keeps NoRoom (λ b need spot new a. orElse (grow b need spot a) (move b (grantedAt spot) new a))
-
   -- a block has words
   block-words : take (s - headerWords) (drop b a) ≢ []
   block-words none =
-      let z = sizes-split pre (live s ∷ post) (arena .law .sizes) .1 in
+      let z = block-sizes a b pre s post e is in
       let n : firstChunk + (total pre + (s + total post)) ≡ length a = simp total-append at (arena .law .fills) in
       omega (arith, simp (length-take, length-drop) at (ap length none), z .0, z .1, is .number-is)
 
@@ -68,8 +47,7 @@ resize-stays a b n = go (resize-case a b n)
   where
     go : {outcome : Outcome} → Case 2 a (ResizeRefused a b n) (Resizes a b n) outcome → outcome .answer .code ≡ 0 → getD (outcome .answer .values) 0 0 ≡ b
     go (refuses why r) code = absurd (omega (arith, number-positive why))
-    go (does (shrinks e r pre s post is l)) code = refl
-    go (does (grows e r pre s t post is l m)) code = refl
+    go (does (resizes e r pre s post is keep k)) code = refl
 
 -- a move that is done answers another number than it was given
 pub relocate-moves : (a : List ℕ) (b n : ℕ) → relocateOn a b n .answer .code ≡ 0 → getD (relocateOn a b n .answer .values) 0 0 ≢ b
@@ -81,7 +59,7 @@ relocate-moves a b n = go (relocate-case a b n)
       where
         elsewhere : Order pre s post before g after → ⊥
         elsewhere (gap-above mid u v) =
-            let z : Sizes (live s ∷ post) = sizes-split pre (live s ∷ post) (rw (is .same) at (sound-chunks a e .law .sizes)) .1 in
+            let z = block-sizes a b pre s post e is in
             omega (arith, ap total u ∙ total-append pre (live s ∷ mid), z .1, at-is, is .number-is)
         elsewhere (gap-below mid u v) =
             omega (arith, ap total u ∙ total-append before (free g ∷ mid), cut-numbers (need n) g (gap .enough) .enough, at-is, is .number-is)

@@ -118,12 +118,6 @@ unfolding joined
 joined-apart [] = tt
 joined-apart (k ∷ ks) = join-spaced k (joined ks) (joined-apart ks)
 
--- merging may be done from the right on
-pub joined-from : (pre ks ls : List Chunk) → joined ks ≡ joined ls → joined (pre ++ ks) ≡ joined (pre ++ ls)
-unfolding joined
-joined-from [] ks ls e = e
-joined-from (k ∷ pre) ks ls e = ap (join k) (joined-from pre ks ls e)
-
 -- chunks in the middle are replaced by others of the same total, and neighbours are merged: the chunks are lawful
 pub joined-lawful : (n : ℕ) (pre old new post : List Chunk) → Lawful n (pre ++ (old ++ post)) → Sizes new → total new ≡ total old
     → Lawful n (joined (pre ++ (new ++ post)))

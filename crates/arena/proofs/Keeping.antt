@@ -1,31 +1,30 @@
 -- A call that changes the words keeps their number, and leaves a sound arena sound. That size and report change none, `Refusing` tells.
 use mathlib.Core.Path.{_≡_, refl, _∙_}
-use mathlib.Core.Bool.{Bool, true, false, cond}
+use mathlib.Core.Bool.{true}
 use mathlib.Core.List.{List, [], _∷_, _++_}
-use Prim.Native.Nat.{ℕ, _+_, _-_, _%_, _≤_}
+use Prim.Native.Nat.{ℕ, _+_, _-_}
 use native.Mathlib.Omega.{arith}
 use lib.ListN.{length}
-use borrow.Author.Tests.{leb-true}
-use Rattle.layout.specs.Numbers.{leastSplit, need}
-use Rattle.layout.specs.Chunks.{Chunk, free, live, total, written}
+use Rattle.layout.specs.Numbers.{need}
+use Rattle.layout.specs.Chunks.{Chunk, free, live, written}
 use Rattle.layout.specs.Walk.{sound, chunksOf}
 use Rattle.layout.specs.declared.Reason.{Reason}
-use Rattle.layout.proofs.Holds.{Lawful, sizes-split, total-even}
+use Rattle.layout.proofs.Holds.{Lawful, sizes-split}
 use Rattle.layout.proofs.Written.{length-written}
 use Rattle.layout.proofs.Round.{sound-chunks, written-sound}
 use Rattle.arena.specs.Answers.{Outcome}
 use Rattle.arena.specs.Spots.{held}
-use Rattle.arena.specs.Rules.{splits, trim, joined, released, copied}
+use Rattle.arena.specs.Rules.{joined, released, copied}
 use Rattle.arena.specs.Calls.{startOn, allocOn, freeOn, resizeOn, relocateOn, reallocOn}
-use Rattle.arena.specs.Inside.Places.{Needed}
 use Rattle.arena.proofs.Gates.{sound-lawful, request-needed}
 use Rattle.arena.proofs.Taking.{cut-lawful}
+use Rattle.arena.proofs.Staying.{kept-lawful}
 use Rattle.arena.proofs.Copying.{length-copied}
 use Rattle.arena.proofs.Joining.{joined-lawful}
 use Rattle.arena.proofs.Relocating.{OldStands, old-stands}
 use Rattle.arena.proofs.Starting.{whole-lawful}
 use Rattle.arena.proofs.Cases.{Case, refuses, does, Starts, starts, start-case, Allots, allots, alloc-case, Frees, frees, free-case}
-use Rattle.arena.proofs.Regranting.{Resizes, shrinks, grows, Relocates, moves, Regrants, in-place, elsewhere, resize-case, relocate-case, realloc-case}
+use Rattle.arena.proofs.Regranting.{Resizes, resizes, Relocates, moves, Regrants, in-place, elsewhere, resize-case, relocate-case, realloc-case}
 
 -- the words `after` are an arena as the words `a` were
 record Kept (a after : List ℕ) : Type 0 where
@@ -55,25 +54,6 @@ module _ (a : List ℕ) (e : sound a ≡ true) where
       let l = chunks-lawful _ same in
       let z = sizes-split pre (live s ∷ post) (l .sizes) .1 in
       joined-lawful (length a) pre (live s ∷ []) (free s ∷ []) post l (z .0, z .1, tt) refl
-
-  -- a need of the words of some chunks, `old`, is kept
-  pub trimmed-lawful : (pre old post : List Chunk) (words need : ℕ) → chunksOf a ≡ pre ++ (old ++ post) → total old ≡ words → Needed need → need ≤ words
-      → Lawful (length a) (joined (pre ++ (trim need words ++ post)))
-  trimmed-lawful pre old post words need same t n enough = go (splits need words) refl
-    where
-      l : Lawful (length a) (pre ++ (old ++ post))
-      l = chunks-lawful _ same
-
-      even : words % 2 ≡ 0
-      even = rw (← t) (total-even old (sizes-split old post (sizes-split pre (old ++ post) (l .sizes) .1) .0))
-
-      go : (split : Bool) → splits need words ≡ split
-          → Lawful (length a) (joined (pre ++ (cond split (live need ∷ free (words - need) ∷ []) (live words ∷ []) ++ post)))
-      go true e =
-          let over : leastSplit ≤ words - need = leb-true _ _ e in
-          let w = even in
-          joined-lawful (length a) pre old (live need ∷ free (words - need) ∷ []) post l (n .even, n .least, (omega (arith, n .even), over, tt)) (omega arith)
-      go false e = joined-lawful (length a) pre old (live words ∷ []) post l (even, omega (arith, n .least), tt) (omega arith)
 
 -- a block moves
 moved-kept : (a : List ℕ) (b block count s : ℕ) (ks : List Chunk) → OldStands (copied b block count (written ks a)) b s ks
@@ -109,10 +89,8 @@ module _ (a : List ℕ) where
       go values after (frees e pre s post is) = written-kept _ a (freed-lawful a e pre s post (is .same))
 
   resizes-kept : (b n : ℕ) (values after : List ℕ) → Resizes a b n values after → Kept a after
-  resizes-kept b n values after (shrinks e r pre s post is l) =
-      written-kept _ a (trimmed-lawful a e pre (live s ∷ []) post s (need n) (is .same) (omega arith) (request-needed (length a) n (sound-lawful a e) r) l)
-  resizes-kept b n values after (grows e r pre s t post is l m) =
-      written-kept _ a (trimmed-lawful a e pre (live s ∷ free t ∷ []) post (s + t) (need n) (is .same) (omega arith) (request-needed (length a) n (sound-lawful a e) r) m)
+  resizes-kept b n values after (resizes e r pre s post is keep k) =
+      written-kept _ a (kept-lawful (length a) (need n) s keep pre post (chunks-lawful a e _ (is .same)) (request-needed (length a) n (sound-lawful a e) r) k)
 
   relocates-kept : (b n : ℕ) (values after : List ℕ) → Relocates a b n values after → Kept a after
   relocates-kept b n values after (moves e r pre s post is before g behind gap block at-is ks same count shorter) =

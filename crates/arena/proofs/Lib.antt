@@ -29,4 +29,5 @@ pub mod Starting
 pub mod Keeping
 pub mod Reasons
 pub mod Largest
+pub mod Shrinking
 pub mod Corners

@@ -8,7 +8,7 @@ use native.Mathlib.Omega.{arith}
 use lib.Dec.{eqb}
 use borrow.Author.Tests.{eq-eqb, ne-eqb}
 use Rattle.layout.specs.Numbers.{headerWords, need}
-use Rattle.layout.specs.Chunks.{Chunk, live}
+use Rattle.layout.specs.Chunks.{live}
 use Rattle.layout.specs.Reasons.{number}
 use Rattle.layout.specs.declared.Reason.{Reason}
 use Rattle.layout.specs.declared.Reason.the-variants.{NoRoom, WouldMove}
@@ -19,7 +19,7 @@ use Rattle.arena.specs.Calls.{granted, resizeOn, relocateOn, resizeElseR
 use Rattle.arena.specs.declared.targets.Target.{Target}
 use Rattle.arena.proofs.Blocks.{Fitting, no-gap, a-gap, fitting-told}
 use Rattle.arena.proofs.Moving.{shorter-old}
-use Rattle.arena.proofs.Regranting.{Stays, by-own, by-next, by-none, stays-told}
+use Rattle.arena.proofs.Regranting.{Stays, by-room, by-none, stays-told}
 use Rattle.arena.proofs.Targeting.{Targets, all-refused, at-block, targets}
 
 module _ (a : List ℕ) (b n : ℕ) where
@@ -29,15 +29,14 @@ module _ (a : List ℕ) (b n : ℕ) where
       go : {target : Target} {call : Reason → Regrant → Outcome} → Targets a b n ⊥ ⊥ target call → relocateOn a b n ≡ call NoRoom relocated
           → cond (eqb (call WouldMove resized .answer .code) (number WouldMove)) (relocateOn (call WouldMove resized .words) b n) (call WouldMove resized) ≡ call NoRoom regranted
       go (all-refused why low so) second = rw (ne-eqb (number why) (number WouldMove) (omega arith))
-      go (at-block e r pre s post is) second = ways (stays-told a b (need n) pre s post) (fitting-told a (need n)) second
+      go (at-block e r pre s post is) second = ways (stays-told a b (need n) pre s post e is) (fitting-told a (need n)) second
         where
-          ways : {next : List Chunk} {first other : Way} {gap : Spot} → Stays a b (need n) pre s next first other → Fitting a (need n) gap
+          ways : {way : Way} {gap : Spot} → Stays a b (need n) pre s post way → Fitting a (need n) gap
               → relocateOn a b n ≡ settle 2 a (granted NoRoom (relocated b (need n) (at pre (live s) post) (grantFrom (need n) gap) a))
-              → let resize = settle 2 a (granted WouldMove (orElse first other)) in
+              → let resize = settle 2 a (granted WouldMove way) in
               cond (eqb (resize .answer .code) (number WouldMove)) (relocateOn (resize .words) b n) resize
-              ≡ settle 2 a (granted NoRoom (orElse first (orElse other (move b (s - headerWords) (grantFrom (need n) gap) a))))
-          ways (by-own l) f m = refl
-          ways (by-next l k) f m = refl
+              ≡ settle 2 a (granted NoRoom (orElse way (move b (s - headerWords) (grantFrom (need n) gap) a)))
+          ways (by-room keep k) f m = refl
           ways (by-none l) (no-gap h) m = m
           ways (by-none l) (a-gap before g after gap) m = rw (← shorter-old (need n) s g (l .own) (gap .enough)) m
 

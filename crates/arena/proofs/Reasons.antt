@@ -15,13 +15,14 @@ use Rattle.layout.specs.declared.Reason.the-variants.{Length, Damaged, NotABloc
 use Rattle.layout.proofs.Reasons.{number-positive, number-injective}
 use Rattle.arena.specs.Answers.{Outcome, done, settle, pass}
 use Rattle.arena.specs.Spots.{held}
-use Rattle.arena.specs.Rules.{Way, orElse, released, grantedAt, Regrant, regranted, resized, relocated}
+use Rattle.arena.specs.Rules.{Way, released, grantedAt, Regrant, regranted, resized, relocated}
 use Rattle.arena.specs.Calls.{onBlock, granted, startOn, allocBy, allocOn, freeOn, regrantBy, resizeOn, relocateOn, reallocOn, sizeOn, reportOn}
 use Rattle.arena.proofs.Gates.{sound-lawful, unlawful-gate, damaged-gate, sound-gate, zero-gate, large-gate, request-gate}
 use Rattle.arena.proofs.Blocks.{no-block-held, block-held, no-gap-fits}
 use Rattle.arena.proofs.Causes.{Grounds, Short, StartRefused, ReportRefused, BlockRefused, AllocRefused, RegrantRefused, ResizeRefused, RelocateRefused, ReallocRefused}
 use Rattle.arena.proofs.Cases.{Case, refuses, does, start-case, alloc-case, free-case, size-case, report-case}
-use Rattle.arena.proofs.Regranting.{Stays, by-own, by-next, by-none, stays-told, resize-case, relocate-case, realloc-case}
+use Rattle.arena.proofs.Staying.{kept-numbers}
+use Rattle.arena.proofs.Regranting.{short-room, Stays, by-room, by-none, stays-told, resize-case, relocate-case, realloc-case}
 use Rattle.arena.proofs.Refusing.{resize-refused-unchanged}
 use Rattle.arena.proofs.Reallocating.{three-ways}
 
@@ -123,12 +124,10 @@ module _ (a : List ℕ) where
 
   resize-gives : (b n : ℕ) (why : Reason) → ResizeRefused a b n why → resizeOn a b n .answer .code ≡ number why
   unfolding regrantBy
-  resize-gives b n = regrant-gives b n WouldMove resized _ _ (λ h. absurd (h .1)) (λ (e, (r, (pre, s, post, is, l))). rw (sound-gate a e, block-held a b pre s post e is, request-gate a n r) (go l (stays-told a b (need n) pre s post)))
+  resize-gives b n = regrant-gives b n WouldMove resized _ _ (λ h. absurd (h .1)) (λ (e, (r, (pre, s, post, is, l))). rw (sound-gate a e, block-held a b pre s post e is, request-gate a n r) (go l (stays-told a b (need n) pre s post e is)))
     where
-      go : {pre post : List Chunk} {s : ℕ} {first second : Way} → Short s post (need n) → Stays a b (need n) pre s post first second
-          → settle 2 a (granted WouldMove (orElse first second)) .answer .code ≡ number WouldMove
-      go l (by-own m) = absurd (omega arith)
-      go l (by-next {t} {post} m k) = absurd (omega (arith, l .with-next t post refl))
+      go : {pre post : List Chunk} {s : ℕ} {way : Way} → Short s post (need n) → Stays a b (need n) pre s post way → settle 2 a (granted WouldMove way) .answer .code ≡ number WouldMove
+      go {post = post} {s = s} l (by-room keep k) = let m = kept-numbers (need n) s keep post k in absurd (omega (arith, short-room s post (need n) .0 l))
       go l (by-none m) = refl
 
   relocate-gives : (b n : ℕ) (why : Reason) → RelocateRefused a b n why → relocateOn a b n .answer .code ≡ number why

@@ -3,7 +3,7 @@ use mathlib.Core.Path.{_≡_, refl, sym}
 use mathlib.Core.Logic.{_↔_}
 use mathlib.Core.Bool.{Bool, true, false, cond}
 use mathlib.Core.List.{List, [], _∷_, _++_}
-use Prim.Native.Nat.{ℕ, _+_, _-_, _≤_, _<_, min}
+use Prim.Native.Nat.{ℕ, _+_, _-_, _<_, min}
 use native.Mathlib.Omega.{arith}
 use lib.Dec.{leb}
 use borrow.Author.Tests.{leb-true, leb-false}
@@ -12,15 +12,17 @@ use Rattle.layout.specs.Chunks.{Chunk, free, live, total, written}
 use Rattle.layout.specs.Walk.{sound}
 use Rattle.layout.specs.declared.Reason.{Reason}
 use Rattle.layout.specs.declared.Reason.the-variants.{NoRoom, WouldMove}
+use Rattle.layout.proofs.Holds.{Sizes}
 use Rattle.arena.specs.Answers.{Outcome, settle}
 use Rattle.arena.specs.Spots.{Spot, at, held}
-use Rattle.arena.specs.Rules.{Way, shut, grants, orElse, taken, cut, trim, joined, released, copied, grantFrom, shrink, grow, move, Regrant, regranted, resized, relocated}
+use Rattle.arena.specs.Rules.{Way, shut, orElse, taken, cut, trim, released, copied, grantFrom, stay, shrink, grow, move, Regrant, regranted, resized, relocated}
 use Rattle.arena.specs.Calls.{granted, regrantBy, resizeOn, relocateOn, reallocOn}
-use Rattle.arena.specs.Inside.Rooms.{roomWords}
+use Rattle.arena.specs.Inside.Rooms.{roomWords, roomAfter, keptOf}
 use Rattle.arena.specs.declared.targets.Target.{Target}
 use Rattle.arena.proofs.Room.{room-words}
+use Rattle.arena.proofs.Staying.{in-room, KeepsOfRoom, keeps-of-room}
 use Rattle.arena.proofs.Moving.{shorter-old}
-use Rattle.arena.proofs.Blocks.{BlockAt, GapAt, Fitting, no-gap, a-gap, fitting-told}
+use Rattle.arena.proofs.Blocks.{BlockAt, block-sizes, GapAt, Fitting, no-gap, a-gap, fitting-told}
 use Rattle.arena.proofs.Causes.{Request, Short, RegrantRefused, ResizeRefused, RelocateRefused, ReallocRefused}
 use Rattle.arena.proofs.Cases.{Case, refuses, does}
 use Rattle.arena.proofs.Targeting.{Targets, all-refused, at-block, targets}
@@ -37,37 +39,28 @@ short-room s post need = (
     room (live t ∷ post) l = l .own
     room (free t ∷ post) l = l .with-next t post refl
 
--- ways 1 and 2, where the block of `s` words stands before `post`
-pub data Stays (a : List ℕ) (b need : ℕ) (pre : List Chunk) (s : ℕ) : List Chunk → Way → Way → Type 0 where
-  by-own : {post : List Chunk} {way : Way} → need ≤ s
-      → Stays a b need pre s post (grants b (taken need s - headerWords) (written (joined (pre ++ (trim need s ++ post))) a)) way
-  by-next : {t : ℕ} {post : List Chunk} → s < need → need ≤ s + t
-      → Stays a b need pre s (free t ∷ post) shut (grants b (taken need (s + t) - headerWords) (written (joined (pre ++ (trim need (s + t) ++ post))) a))
-  by-none : {post : List Chunk} → Short s post need → Stays a b need pre s post shut shut
+-- ways 1 and 2, where the block of `s` words stands before `post`: it keeps words of its room, or its room is too short
+pub data Stays (a : List ℕ) (b need : ℕ) (pre : List Chunk) (s : ℕ) (post : List Chunk) : Way → Type 0 where
+  by-room : (keep : ℕ) → KeepsOfRoom need s post keep → Stays a b need pre s post (stay b keep pre (roomWords s post) (roomAfter post) a)
+  by-none : Short s post need → Stays a b need pre s post shut
 
-pub stays-told : (a : List ℕ) (b need : ℕ) (pre : List Chunk) (s : ℕ) (post : List Chunk) → Stays a b need pre s post (shrink b need (at pre (live s) post) a) (grow b need (at pre (live s) post) a)
-stays-told a b need pre s post = go (leb need s) refl post
+pub stays-told : (a : List ℕ) (b need : ℕ) (pre : List Chunk) (s : ℕ) (post : List Chunk) → sound a ≡ true → BlockAt a b pre s post
+    → Stays a b need pre s post (orElse (shrink b need (at pre (live s) post) a) (grow b need (at pre (live s) post) a))
+stays-told a b need pre s post e is = rw (in-room b need pre s a post sizes) (go (leb need (roomWords s post)) refl)
   where
-    more : (t : ℕ) (post : List Chunk) (fits : Bool) → leb need (s + t) ≡ fits → s < need
-        → Stays a b need pre s (free t ∷ post) shut (cond fits (grants b (taken need (s + t) - headerWords) (written (joined (pre ++ (trim need (s + t) ++ post))) a)) shut)
-    more t post true e l = by-next l (leb-true need (s + t) e)
-    more t post false e l = by-none (short-room s (free t ∷ post) need .1 (leb-false need (s + t) e))
+    sizes : Sizes post
+    sizes = block-sizes a b pre s post e is .2
 
-    go : (fits : Bool) → leb need s ≡ fits → (post : List Chunk)
-        → Stays a b need pre s post (cond fits (grants b (taken need s - headerWords) (written (joined (pre ++ (trim need s ++ post))) a)) shut) (grow b need (at pre (live s) post) a)
-    go true e post = by-own (leb-true need s e)
-    go false e [] = by-none (short-room s [] need .1 (leb-false need s e))
-    go false e (live t ∷ post) = by-none (short-room s (live t ∷ post) need .1 (leb-false need s e))
-    go false e (free t ∷ post) = more t post (leb need (s + t)) refl (leb-false need s e)
+    go : (fits : Bool) → leb need (roomWords s post) ≡ fits → Stays a b need pre s post (cond fits (stay b (keptOf need s (roomWords s post)) pre (roomWords s post) (roomAfter post) a) shut)
+    go true q = by-room (keptOf need s (roomWords s post)) (keeps-of-room need s post sizes (leb-true need (roomWords s post) q))
+    go false q = by-none (short-room s post need .1 (leb-false need (roomWords s post) q))
 
 -- ---- what the three calls do
 
--- resize: the block keeps its need of its own words, or of those and the free chunk's right after it
+-- resize: the block keeps words of its room
 pub data Resizes (a : List ℕ) (b n : ℕ) : List ℕ → List ℕ → Type 0 where
-  shrinks : sound a ≡ true → Request a n → (pre : List Chunk) (s : ℕ) (post : List Chunk) → BlockAt a b pre s post → need n ≤ s
-      → Resizes a b n (b ∷ (taken (need n) s - headerWords) ∷ []) (written (joined (pre ++ (trim (need n) s ++ post))) a)
-  grows : sound a ≡ true → Request a n → (pre : List Chunk) (s t : ℕ) (post : List Chunk) → BlockAt a b pre s (free t ∷ post) → s < need n → need n ≤ s + t
-      → Resizes a b n (b ∷ (taken (need n) (s + t) - headerWords) ∷ []) (written (joined (pre ++ (trim (need n) (s + t) ++ post))) a)
+  resizes : sound a ≡ true → Request a n → (pre : List Chunk) (s : ℕ) (post : List Chunk) → BlockAt a b pre s post → (keep : ℕ) → KeepsOfRoom (need n) s post keep
+      → Resizes a b n (b ∷ (keep - headerWords) ∷ []) (written (pre ++ (trim keep (roomWords s post) ++ roomAfter post)) a)
 
 -- relocate: the block moves to a new block of the lowest free chunk that fits
 pub data Relocates (a : List ℕ) (b n : ℕ) : List ℕ → List ℕ → Type 0 where
@@ -98,12 +91,11 @@ module _ (a : List ℕ) (b n : ℕ) where
 
   pub resize-case : Case 2 a (ResizeRefused a b n) (Resizes a b n) (resizeOn a b n)
   resize-case =
-      regrant-case WouldMove resized _ _ (Resizes a b n) (λ e r pre s post is gap g. go pre s post e r is (stays-told a b (need n) pre s post))
+      regrant-case WouldMove resized _ _ (Resizes a b n) (λ e r pre s post is gap g. go pre s post e r is (stays-told a b (need n) pre s post e is))
     where
-      go : {first second : Way} (pre : List Chunk) (s : ℕ) (post : List Chunk) → sound a ≡ true → Request a n → BlockAt a b pre s post → Stays a b (need n) pre s post first second
-          → Case 2 a (ResizeRefused a b n) (Resizes a b n) (settle 2 a (granted WouldMove (orElse first second)))
-      go pre s post e r is (by-own l) = does (shrinks e r pre s post is l)
-      go pre s post e r is (by-next l m) = does (grows e r pre s _ _ is l m)
+      go : {way : Way} (pre : List Chunk) (s : ℕ) (post : List Chunk) → sound a ≡ true → Request a n → BlockAt a b pre s post → Stays a b (need n) pre s post way
+          → Case 2 a (ResizeRefused a b n) (Resizes a b n) (settle 2 a (granted WouldMove way))
+      go pre s post e r is (by-room keep k) = does (resizes e r pre s post is keep k)
       go pre s post e r is (by-none l) = refuses WouldMove (e, (r, (pre, s, post, is, l)))
 
   pub relocate-case : Case 2 a (RelocateRefused a b n) (Relocates a b n) (relocateOn a b n)
@@ -115,12 +107,11 @@ module _ (a : List ℕ) (b n : ℕ) where
       go pre s post e r is (a-gap before g after gap) = does (moves e r pre s post is before g after gap _ refl _ refl _ refl)
 
   pub realloc-case : Case 2 a (ReallocRefused a b n) (Regrants a b n) (reallocOn a b n)
-  realloc-case = regrant-case NoRoom regranted _ _ (Regrants a b n) (λ e r pre s post is gap g. go pre s post e r is (stays-told a b (need n) pre s post) g)
+  realloc-case = regrant-case NoRoom regranted _ _ (Regrants a b n) (λ e r pre s post is gap g. go pre s post e r is (stays-told a b (need n) pre s post e is) g)
     where
-      go : {first second : Way} {gap : Spot} (pre : List Chunk) (s : ℕ) (post : List Chunk) → sound a ≡ true → Request a n → BlockAt a b pre s post → Stays a b (need n) pre s post first second → Fitting a (need n) gap
-          → Case 2 a (ReallocRefused a b n) (Regrants a b n) (settle 2 a (granted NoRoom (orElse first (orElse second (move b (s - headerWords) (grantFrom (need n) gap) a)))))
-      go pre s post e r is (by-own l) g = does (in-place (shrinks e r pre s post is l))
-      go pre s post e r is (by-next l m) g = does (in-place (grows e r pre s _ _ is l m))
+      go : {way : Way} {gap : Spot} (pre : List Chunk) (s : ℕ) (post : List Chunk) → sound a ≡ true → Request a n → BlockAt a b pre s post → Stays a b (need n) pre s post way → Fitting a (need n) gap
+          → Case 2 a (ReallocRefused a b n) (Regrants a b n) (settle 2 a (granted NoRoom (orElse way (move b (s - headerWords) (grantFrom (need n) gap) a))))
+      go pre s post e r is (by-room keep k) g = does (in-place (resizes e r pre s post is keep k))
       go pre s post e r is (by-none l) (no-gap h) = refuses NoRoom (e, (r, (pre, s, post, is, l), h))
       go pre s post e r is (by-none l) (a-gap before g after gap) =
           does (elsewhere (moves e r pre s post is before g after gap _ refl _ refl _ (sym (shorter-old (need n) s g (l .own) (gap .enough)))))

@@ -16,7 +16,7 @@ use Rattle.layout.proofs.Written.{Arena}
 use Rattle.layout.proofs.Replace.{replaced-same}
 use Rattle.arena.specs.Rules.{join, joined}
 use Rattle.arena.specs.Inside.Places.{Stands}
-use Rattle.arena.specs.Inside.Rooms.{HasRoom, roomWords, roomAfter, endsAt}
+use Rattle.arena.specs.Inside.Rooms.{HasRoom, roomWords, roomAfter, endsAt, roomWritten}
 use Rattle.arena.specs.declared.release.Room.{Room}
 use Rattle.arena.proofs.Standing.{reads}
 use Rattle.arena.proofs.Joining.{Closed, spaced-after, joined-spaced, joined-front, Ending, closed, in-free, ending}
@@ -87,7 +87,7 @@ module _ (a : List ℕ) (pre : List Chunk) (s : ℕ) (post : List Chunk) (link c
           ends-where a link chunk l ∙ ne-eqb (getD a (link - 1) 0) (chunk - (link - 1)) (omega (arith, st .at-is))
 
   alone-stores : Closed false pre → header chunk (room .words) (room .next) (set a link chunk) ≡ written (joined (pre ++ free s ∷ post)) a
-  unfolding write
+  unfolding write roomWritten
   alone-stores q =
       let r = reads a pre (live s) post link chunk st in
       let b = bounds a pre s post link chunk st room has in

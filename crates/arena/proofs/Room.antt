@@ -5,17 +5,17 @@ use mathlib.Core.Bool.{true, false}
 use mathlib.Core.List.{List, [], _∷_, _++_}
 use Prim.Native.Nat.{ℕ, _+_, _%_, _≤_, _<_}
 use native.Mathlib.Omega.{arith}
-use lib.ListN.{length, getD, set}
+use lib.ListN.{length, getD}
 use Rattle.layout.specs.Numbers.{leastSize, greatestLength}
-use Rattle.layout.specs.Chunks.{Chunk, free, live, total, firstFree, write, written}
+use Rattle.layout.specs.Chunks.{Chunk, free, live, total, firstFree, written}
 use Rattle.layout.specs.Links.{freeList, Chain}
-use Rattle.layout.proofs.Holds.{Sizes, Spaced, sizes-split, total-append, total-even, firstFree-within}
+use Rattle.layout.proofs.Holds.{Sizes, Spaced, total-append, firstFree-within}
 use Rattle.layout.proofs.Chain.{chain-next}
 use Rattle.layout.proofs.Written.{Arena}
 use Rattle.layout.proofs.Replace.{replaced}
 use Rattle.arena.specs.Rules.{join}
 use Rattle.arena.specs.Inside.Places.{Stands, LiveAt}
-use Rattle.arena.specs.Inside.Rooms.{HasRoom, roomWords, roomAfter}
+use Rattle.arena.specs.Inside.Rooms.{HasRoom, roomWords, roomAfter, roomWritten}
 use Rattle.arena.specs.declared.release.Room.{Room}
 use Rattle.arena.proofs.Standing.{Reads, reads}
 
@@ -36,6 +36,16 @@ pub room-words : (s : ℕ) (post : List Chunk) → roomWords s post ≡ s + tota
 room-words s [] = omega arith
 room-words s (free t ∷ ks) = omega arith
 room-words s (live t ∷ ks) = omega arith
+
+-- the chunks of which it is a part
+pub room-split : {ks : List Chunk} (pre : List Chunk) (s : ℕ) (post : List Chunk) → ks ≡ pre ++ live s ∷ post → ks ≡ pre ++ (live s ∷ roomTail post ++ roomAfter post)
+room-split pre s post same = same ∙ ap (λ (ks : List Chunk). pre ++ live s ∷ ks) (room-parts post)
+
+-- its words are even in number
+pub room-even : (s : ℕ) (post : List Chunk) → Sizes (live s ∷ post) → roomWords s post % 2 ≡ 0
+room-even s [] z = z .0
+room-even s (free t ∷ ks) z = omega (arith, z .0, z .2 .0)
+room-even s (live t ∷ ks) z = z .0
 
 -- behind the room stands no free chunk
 pub room-spaced : (post : List Chunk) → Spaced false post → Spaced true (roomAfter post)
@@ -131,14 +141,14 @@ module _ (a : List ℕ) (pre : List Chunk) (s : ℕ) (post : List Chunk) (link c
       let r = reads a pre (live s) post link chunk st in
       let w : room .words ≡ s + total (roomTail post) = has .words-are ∙ room-words s post in
       let p : total post ≡ total (roomTail post) + total (roomAfter post) = ap total (room-parts post) ∙ total-append (roomTail post) (roomAfter post) in
-      let z : Sizes (roomTail post ++ roomAfter post) = rw (← room-parts post) (r .sizes-after) in
-      let e : total (roomTail post) % 2 ≡ 0 = total-even (roomTail post) (sizes-split (roomTail post) (roomAfter post) z .0) in
+      let e = room-even s post (r .even, r .least, r .sizes-after) in
       let f = firstFree-within (chunk + roomWords s post) (roomAfter post) in
-      record { even = omega arith; least = omega arith; fits = omega arith; next-fits = omega (arith, has .next-is, has .words-are) }
+      record { even = omega (arith, has .words-are); least = omega arith; fits = omega arith; next-fits = omega (arith, has .next-is, has .words-are) }
 
   -- the chunk and its room become `new`: one link is stored anew, and the headers of `new`
   pub become : (new : List Chunk) → Sizes new → total new ≡ room .words
-      → written (pre ++ (new ++ roomAfter post)) a ≡ write chunk new (room .next) (set a link (firstFree chunk new (room .next)))
+      → written (pre ++ (new ++ roomAfter post)) a ≡ roomWritten link chunk new (room .next) a
+  unfolding roomWritten
   become new z t =
       let r = reads a pre (live s) post link chunk st in
       let w : room .words ≡ s + total (roomTail post) = has .words-are ∙ room-words s post in

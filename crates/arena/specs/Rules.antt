@@ -20,9 +20,9 @@ taken need s = cond (splits need s) need s
 abbrev pub cut : ℕ → ℕ → List Chunk
 cut need s = cond (splits need s) (free (s - need) ∷ live need ∷ []) (live s ∷ [])
 
--- `s` words of which a block keeps its need: it keeps the first of them
+-- `s` words of which a block keeps the first `keep`: those over, if there are any, are a free chunk
 abbrev pub trim : ℕ → ℕ → List Chunk
-trim need s = cond (splits need s) (live need ∷ free (s - need) ∷ []) (live s ∷ [])
+trim keep s = live keep ∷ cond (leb s keep) [] (free (s - keep) ∷ [])
 
 -- a chunk before others: a free one merges with a free one right after it
 abbrev pub join : Chunk → List Chunk → List Chunk
@@ -78,22 +78,27 @@ allotted (grant block granted ks) a = grants block granted (written ks a)
 
 -- ---- the three ways to grant block `b` anew
 
--- if `s` words are enough, the block stays where it is and keeps its need of them
+-- the block stays where it is and keeps the first `keep` of `s` words, which lie between `pre` and `post`
 abbrev pub stay : ℕ → ℕ → List Chunk → ℕ → List Chunk → List ℕ → Way
-stay b need pre s post a =
-    cond (leb need s) (grants b (taken need s - headerWords) (written (joined (pre ++ (trim need s ++ post))) a)) shut
+stay b keep pre s post a = grants b (keep - headerWords) (written (pre ++ (trim keep s ++ post)) a)
 
--- way 1: of its own words
+-- a way is shut where `s` words are too few for the need
+abbrev pub ifEnough : ℕ → ℕ → Way → Way
+ifEnough need s way = cond (leb need s) way shut
+
+-- way 1: its own words are enough. A free chunk right after it takes all that are over, however few: live `s`, free `t` become live `need`, free `s + t - need`
 abbrev pub shrink : ℕ → ℕ → Spot → List ℕ → Way
 shrink b need nowhere a = shut
-shrink b need (at pre k post) a = stay b need pre (size k) post a
+shrink b need (at pre k []) a = ifEnough need (size k) (stay b (taken need (size k)) pre (size k) [] a)
+shrink b need (at pre k (live t ∷ post)) a = ifEnough need (size k) (stay b (taken need (size k)) pre (size k) (live t ∷ post) a)
+shrink b need (at pre k (free t ∷ post)) a = ifEnough need (size k) (stay b need pre (size k + t) post a)
 
--- way 2: of its own words and those of the free chunk right after it
+-- way 2: its own words and those of the free chunk right after it are enough
 abbrev pub grow : ℕ → ℕ → Spot → List ℕ → Way
 grow b need nowhere a = shut
 grow b need (at pre k []) a = shut
 grow b need (at pre k (live t ∷ post)) a = shut
-grow b need (at pre k (free t ∷ post)) a = stay b need pre (size k + t) post a
+grow b need (at pre k (free t ∷ post)) a = ifEnough need (size k + t) (stay b (taken need (size k + t)) pre (size k + t) post a)
 
 -- the words `a` with `count` words from word `from` on stored from word `to` on
 unfoldable pub copied : ℕ → ℕ → ℕ → List ℕ → List ℕ
@@ -117,13 +122,13 @@ grantedIn (grant block granted ks) = granted
 abbrev pub Regrant : Type 0
 Regrant = ℕ → ℕ → Spot → Grant → List ℕ → Way
 
--- the three ways in their order; a move copies all the old granted words
-abbrev pub regranted : Regrant
-regranted b need spot new a = orElse (shrink b need spot a) (orElse (grow b need spot a) (move b (grantedAt spot) new a))
-
 -- ways 1 and 2: the block stays where it is
 abbrev pub resized : Regrant
 resized b need spot new a = orElse (shrink b need spot a) (grow b need spot a)
+
+-- the three ways in their order; a move copies all the old granted words
+abbrev pub regranted : Regrant
+regranted b need spot new a = orElse (resized b need spot new a) (move b (grantedAt spot) new a)
 
 -- way 3 by itself: it copies as many words as the shorter of the two blocks has granted
 abbrev pub relocated : Regrant

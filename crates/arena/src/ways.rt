@@ -12,23 +12,42 @@ ghost use mathlib.Core.Path.{_≡_};
 ghost use Prim.Native.Nat.{_≤_};
 ghost use lib.ListN.{length};
 ghost use Rattle.layout.specs.Numbers.{greatestLength};
-ghost use Rattle.arena.specs.Rules.{resized, relocated};
+ghost use Rattle.arena.specs.Rules.{trim, resized, relocated};
 ghost use Rattle.arena.specs.Inside.Places.{LiveAt, Needed};
 ghost use Rattle.arena.specs.Inside.Ways.{FollowsAt};
-ghost use Rattle.arena.specs.Inside.Rooms.{RoomFor, splitOff};
+ghost use Rattle.arena.specs.Inside.Rooms.{RoomFor, keptOf, roomWritten};
 ghost use Rattle.arena.specs.Inside.Moves.{linkAfter};
 
-// The chunk at `chunk` keeps the first `need` words of its room, and the rest becomes a free chunk.
-fn split_off(a: &mut [u32], link: usize, chunk: usize, need: usize, room: Room)
-    requires { ⌜ RoomFor (length (now a)) link chunk need room ⌝ }
-    ensures { λ _. ⌜ now (a .exit) ≡ splitOff link chunk need room (now (a .entry)) ⌝ }
+// How many words a block of `size` words keeps for its need, of a room of `words`: just the need, where its own words are enough and the free chunk after it takes those over; otherwise the need, or all where too few would be over.
+fn kept_words(need: usize, size: usize, words: usize) -> usize
+    requires { ⌜ need ≤ words ⌝ }
+    ensures { λ r. ⌜ r ≡ keptOf need size words ⌝ }
+{
+    if size < words && need <= size {
+        return need;
+    }
+    if words - need < layout::LEAST_SPLIT {
+        return words;
+    }
+    need
+}
+
+// The chunk at `chunk` keeps the first `keep` words of its room; those over, if there are any, become a free chunk.
+fn trim(a: &mut [u32], link: usize, chunk: usize, keep: usize, room: Room)
+    requires { ⌜ RoomFor (length (now a)) link chunk keep room ⌝ }
+    ensures { λ _. ⌜ now (a .exit) ≡ roomWritten link chunk (trim keep (room .words)) (room .next) (now (a .entry)) ⌝ }
 {
     let words = room.words;
     let next = room.next;
-    let rest = chunk + need;
+    if words <= keep {
+        stores::change(a, link, next);
+        stores::put_live(a, chunk, keep);
+        return;
+    }
+    let rest = chunk + keep;
     stores::change(a, link, rest);
-    stores::put_live(a, chunk, need);
-    stores::put(a, rest, words - need, next);
+    stores::put_live(a, chunk, keep);
+    stores::put(a, rest, words - keep, next);
 }
 
 // Ways 1 and 2: the block stays where it is.
@@ -38,25 +57,13 @@ pub(crate) fn resize_at(a: &mut [u32], link: usize, chunk: usize, need: usize) -
 {
     let size = wide(a[chunk]);
     let room = release::room_at(a, link, chunk);
-    if need <= size {
-        if size - need < layout::LEAST_SPLIT {
-            return grant::grants(Piece { chunk, words: size });
-        }
-        split_off(a, link, chunk, need, room);
-        return grant::grants(Piece { chunk, words: need });
-    }
     let words = room.words;
     if words < need {
         return Way::Shut;
     }
-    if words - need < layout::LEAST_SPLIT {
-        let next = room.next;
-        stores::change(a, link, next);
-        stores::put_live(a, chunk, words);
-        return grant::grants(Piece { chunk, words });
-    }
-    split_off(a, link, chunk, need, room);
-    grant::grants(Piece { chunk, words: need })
+    let keep = kept_words(need, size, words);
+    trim(a, link, chunk, keep, room);
+    grant::grants(Piece { chunk, words: keep })
 }
 
 // The word that names the first free chunk after a block, once the chunk `new` was made of the free chunk at `gap`: where that was taken whole, its second word is a link no more, and the word that named it now names the next free chunk.

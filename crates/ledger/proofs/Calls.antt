@@ -1,14 +1,13 @@
 -- Each call of this project goes as a ledger notes it.
 use mathlib.Core.Path.{_≡_, refl, sym}
 use mathlib.Core.Bool.{Bool, true, false, cond}
-use mathlib.Core.List.{List, [], _∷_}
-use Prim.Native.Nat.{ℕ, _+_}
+use mathlib.Core.List.{List, []}
+use Prim.Native.Nat.{ℕ}
 use native.Mathlib.Omega.{arith}
 use lib.Dec.{eqb}
 use lib.ListN.{length}
 use borrow.Author.Tests.{eqb-true, ne-eqb}
 use Rattle.layout.specs.Numbers.{need}
-use Rattle.layout.specs.Chunks.{free as gap}
 use Rattle.layout.specs.Reasons.{number}
 use Rattle.layout.specs.declared.Reason.{Reason}
 use Rattle.layout.proofs.Reasons.{number-positive}
@@ -18,7 +17,7 @@ use Rattle.arena.proofs.Gates.{sound-lawful, request-needed}
 use Rattle.arena.proofs.Starting.{whole-lawful}
 use Rattle.arena.proofs.Causes.{Request}
 use Rattle.arena.proofs.Cases.{Case, refuses, does, Starts, starts, start-case, Allots, allots, alloc-case, Frees, frees, free-case, Measures, measures, size-case, Reports, reports, report-case}
-use Rattle.arena.proofs.Regranting.{Resizes, shrinks, grows, Relocates, moves, Regrants, in-place, elsewhere, resize-case, relocate-case, realloc-case}
+use Rattle.arena.proofs.Regranting.{Resizes, resizes, Relocates, moves, Regrants, in-place, elsewhere, resize-case, relocate-case, realloc-case}
 use Rattle.arena.proofs.Relocating.{old-stands}
 use Rattle.ledger.specs.Events.{Call, start, alloc, free, resize, relocate, realloc, size, view, report, call, ours}
 use Rattle.ledger.specs.Ledger.{Ledger, grants, frees, regrants, effect, noted, ifDone, ledgerAfter}
@@ -61,10 +60,8 @@ module _ (n : ℕ) (a : List ℕ) (ledger : Ledger) (g : Agrees n a ledger) wher
       go false q = refl
 
   resize-goes : (b w : ℕ) (values after : List ℕ) → Resizes a b w values after → Goes n a ledger (renamed (regrants b) (success values)) after (noted (regrants b) (success values) ledger)
-  resize-goes b w values after (shrinks e r pre s post is l) =
-      stays-goes n a ledger g b pre s [] post s (need w) (renamed (regrants b) (success values)) is refl (omega arith) (needed w r) l (same-name b)
-  resize-goes b w values after (grows e r pre s t post is l m) =
-      stays-goes n a ledger g b pre s (gap t ∷ []) post (s + t) (need w) (renamed (regrants b) (success values)) is refl (omega arith) (needed w r) m (same-name b)
+  resize-goes b w values after (resizes e r pre s post is keep k) =
+      stays-goes n a ledger g b pre s post (need w) keep (renamed (regrants b) (success values)) is (needed w r) k (same-name b)
 
   relocate-goes : (b w : ℕ) (values after : List ℕ) → Relocates a b w values after → Goes n a ledger (renamed (regrants b) (success values)) after (noted (regrants b) (success values) ledger)
   relocate-goes b w values after (moves e r pre s post is before t behind fit block at-is ks same count shorter) =

@@ -4,10 +4,12 @@ use mathlib.Core.Bool.{Bool, true, false, cond}
 use mathlib.Core.List.{List, [], _∷_, _++_}
 use Prim.Native.Nat.{ℕ, _+_, _-_, _≤_}
 use native.Mathlib.Omega.{arith}
+use lib.Dec.{leb}
 use Rattle.layout.specs.Numbers.{firstChunk, headerWords}
 use Rattle.layout.specs.Chunks.{Chunk, free, live, total}
 use Rattle.layout.proofs.Holds.{Sizes}
 use Rattle.arena.specs.Rules.{splits, taken, cut, trim}
+use Rattle.arena.proofs.Room.{roomTail}
 use Rattle.ledger.specs.Ledger.{Entry, enter, strike}
 use Rattle.ledger.proofs.Blocks.{entryAt, blocksFrom, blocks-around, blocks-laid}
 use Rattle.ledger.proofs.Entries.{Laid, enter-at, strike-at}
@@ -21,19 +23,18 @@ cut-blocks need s d = go (splits need s)
     go true = refl
     go false = ap (λ (c : ℕ). entryAt c s ∷ []) (omega arith)
 
-pub trim-blocks : (need s d : ℕ) → blocksFrom d (trim need s) ≡ entryAt d (taken need s) ∷ []
-trim-blocks need s d = go (splits need s)
+pub trim-blocks : (keep s d : ℕ) → blocksFrom d (trim keep s) ≡ entryAt d keep ∷ []
+trim-blocks keep s d = ap (_∷_ (entryAt d keep)) (go (leb s keep))
   where
-    go : (split : Bool) → blocksFrom d (cond split (live need ∷ free (s - need) ∷ []) (live s ∷ [])) ≡ entryAt d (cond split need s) ∷ []
+    go : (all : Bool) → blocksFrom (d + keep) (cond all [] (free (s - keep) ∷ [])) ≡ []
     go true = refl
     go false = refl
 
-pub trim-total : (need s : ℕ) → need ≤ s → total (trim need s) ≡ s
-trim-total need s enough = go (splits need s)
-  where
-    go : (split : Bool) → total (cond split (live need ∷ free (s - need) ∷ []) (live s ∷ [])) ≡ s
-    go true = omega arith
-    go false = omega arith
+-- a free chunk right after a block has none
+pub tail-blocks : (d : ℕ) (post : List Chunk) → blocksFrom d (roomTail post) ≡ []
+tail-blocks d [] = refl
+tail-blocks d (free t ∷ ks) = refl
+tail-blocks d (live t ∷ ks) = refl
 
 -- ---- a middle that is replaced: it lies between the words `d` and `e`, and `pre` and `post` stay
 

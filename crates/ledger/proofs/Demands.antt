@@ -3,8 +3,8 @@ use mathlib.Core.Path.{sym, _∙_}
 use mathlib.Core.Bool.{true≢false}
 use Rattle.arena.proofs.Reasons.{start-done}
 use Rattle.ledger.specs.Events.{alloc, resize, relocate, realloc, ours}
-use Rattle.ledger.specs.Demands.{Starts, Lengths, Apart, Inside, Keeps, Lasts, Sums, RoomForAlloc, RoomForResize, RoomForRelocate, RoomForRealloc, Known}
-use Rattle.ledger.proofs.Rooms.{alloc-room, resize-room, relocate-room, realloc-room}
+use Rattle.ledger.specs.Demands.{Starts, Lengths, Apart, Inside, Keeps, Lasts, Sums, RoomForAlloc, RoomForResize, RoomForRelocate, RoomForRealloc, ShrinksToNeed, Known}
+use Rattle.ledger.proofs.Rooms.{alloc-room, resize-room, relocate-room, realloc-room, resize-shrinks, realloc-shrinks}
 use Rattle.ledger.proofs.Showing.{lies-apart, lies-inside, adds-up, tells}
 use Rattle.ledger.proofs.Runs.{block-keeps, run-agrees}
 use Rattle.ledger.proofs.Lasting.{stored-lasts}
@@ -41,6 +41,12 @@ room-for-relocate n s run = relocate-room n (s .words) (s .ledger) (run-agrees r
 
 pub room-for-realloc : RoomForRealloc ours realloc
 room-for-realloc n s run = realloc-room n (s .words) (s .ledger) (run-agrees run)
+
+pub resize-to-need : ShrinksToNeed ours resize
+resize-to-need n s run = resize-shrinks n (s .words) (s .ledger) (run-agrees run)
+
+pub realloc-to-need : ShrinksToNeed ours realloc
+realloc-to-need n s run = realloc-shrinks n (s .words) (s .ledger) (run-agrees run)
 
 pub known : Known ours
 known n s run = tells n (s .words) (s .ledger) (run-agrees run)

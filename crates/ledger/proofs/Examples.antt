@@ -221,7 +221,7 @@ nine-allowed = ((entry 18 6, inl refl, refl, omega arith), omega arith)
 unfoldable pub filled : Run ours 32 filledState
 filled = play moved (store 18 5 9 ∷ []) (nine-allowed, tt)
 
--- the tail is merged with the free chunk above it
+-- the words over go to the free chunk above it, whose start moves down
 abbrev cutState : State
 cutState =
     record {

@@ -13,14 +13,17 @@ use Rattle.layout.proofs.Round.{sound-chunks, written-sound}
 use Rattle.layout.proofs.Written.{length-written}
 use Rattle.arena.specs.Rules.{taken, cut, trim, joined}
 use Rattle.arena.specs.Inside.Places.{Needed}
-use Rattle.arena.proofs.Blocks.{BlockAt}
+use Rattle.arena.specs.Inside.Rooms.{roomWords, roomAfter}
+use Rattle.arena.proofs.Blocks.{BlockAt, block-sizes}
+use Rattle.arena.proofs.Room.{roomTail, room-split, room-words}
+use Rattle.arena.proofs.Staying.{KeepsOfRoom, kept-numbers, kept-sizes, kept-lawful}
 use Rattle.arena.proofs.Taking.{cut-lawful}
 use Rattle.arena.proofs.Moving.{cut-numbers}
-use Rattle.arena.proofs.Keeping.{chunks-lawful, freed-lawful, trimmed-lawful}
+use Rattle.arena.proofs.Keeping.{chunks-lawful, freed-lawful}
 use Rattle.ledger.specs.Ledger.{Entry, Ledger, enter, strike, Listed, Unlisted}
 use Rattle.ledger.proofs.Blocks.{entryAt, blocksFrom, blocks-joined, blocks-laid, chunked}
 use Rattle.ledger.proofs.Entries.{Laid, listed-split, laid-fresh}
-use Rattle.ledger.proofs.Changes.{cut-blocks, trim-blocks, trim-total, enters, leaves, replaces}
+use Rattle.ledger.proofs.Changes.{cut-blocks, trim-blocks, tail-blocks, enters, leaves, replaces}
 use Rattle.ledger.proofs.Agreeing.{Agrees}
 
 -- the words `a` with `ledger` become the words `after` with `then`; a block goes on under the number that `renamed` gives
@@ -81,20 +84,23 @@ module _ (n : ℕ) (a : List ℕ) (ledger : Ledger) (g : Agrees n a ledger) wher
       written-goes n a ledger (λ c. c) (joined (pre ++ free s ∷ post)) (strike b ledger) (g .long) (freed-lawful a (g .is-sound) pre s post (is .same))
       (rw (← is .number-is) (ap (strike (d + headerWords)) (lists-as (pre ++ live s ∷ post) (is .same)) ∙ l ∙ sym (blocks-joined firstChunk (pre ++ free s ∷ post)))) (λ c. refl)
 
-  -- it keeps a need of its words and those of `rest`, which stand right after it and have no block
-  pub stays-goes : (b : ℕ) (pre : List Chunk) (s : ℕ) (rest post : List Chunk) (words needed : ℕ) (renamed : ℕ → ℕ) → BlockAt a b pre s (rest ++ post) → blocksFrom (firstChunk + total pre + s) rest ≡ []
-      → words ≡ s + total rest → Needed needed → needed ≤ words → ((c : ℕ) → renamed c ≡ c)
-      → Goes n a ledger renamed (written (joined (pre ++ (trim needed words ++ post))) a) (enter (record { block = b; granted = taken needed words - headerWords }) (strike b ledger))
-  stays-goes b pre s rest post words needed renamed is none all nd enough names =
+  -- it stays where it is, and keeps so many words of its room
+  pub stays-goes : (b : ℕ) (pre : List Chunk) (s : ℕ) (post : List Chunk) (needed keep : ℕ) (renamed : ℕ → ℕ) → BlockAt a b pre s post → Needed needed → KeepsOfRoom needed s post keep → ((c : ℕ) → renamed c ≡ c)
+      → Goes n a ledger renamed (written (pre ++ (trim keep (roomWords s post) ++ roomAfter post)) a) (enter (record { block = b; granted = keep - headerWords }) (strike b ledger))
+  stays-goes b pre s post needed keep renamed is nd k names =
       let d : ℕ = firstChunk + total pre in
-      let (y, z, x) = sizes-as pre (live s ∷ rest) post (is .same) in
-      let one : blocksFrom d (live s ∷ rest) ≡ entryAt d s ∷ [] = ap (_∷_ (entryAt d s)) none in
-      let l = replaces pre post y x d (d + words) refl (live s ∷ rest) (trim needed words) (entryAt d s) (entryAt d (taken needed words))
-      (omega arith) (omega (arith, trim-total needed words enough)) one (trim-blocks needed words d) (omega arith) (omega (arith, z .1)) (omega arith) (omega (arith, z .1)) in
-      written-goes n a ledger renamed (joined (pre ++ (trim needed words ++ post))) _ (g .long)
-      (trimmed-lawful a (g .is-sound) pre (live s ∷ rest) post words needed (is .same) (sym all) nd enough)
-      (rw (← is .number-is)
-      (ap (λ (es : Ledger). enter (entryAt d (taken needed words)) (strike (d + headerWords) es)) (lists-as (pre ++ (live s ∷ rest ++ post)) (is .same)) ∙ l ∙ sym (blocks-joined firstChunk (pre ++ (trim needed words ++ post))))) names
+      let words : ℕ = roomWords s post in
+      let behind : List Chunk = roomAfter post in
+      let same : chunksOf a ≡ pre ++ (live s ∷ roomTail post ++ behind) = room-split pre s post (is .same) in
+      let (y, z, x) = sizes-as pre (live s ∷ roomTail post) behind same in
+      let m = kept-numbers needed s keep post k in
+      let all = kept-sizes needed s keep post nd (block-sizes a b pre s post (g .is-sound) is) k .1 in
+      let one : blocksFrom d (live s ∷ roomTail post) ≡ entryAt d s ∷ [] = ap (_∷_ (entryAt d s)) (tail-blocks (d + s) post) in
+      let l = replaces pre behind y x d (d + words) refl (live s ∷ roomTail post) (trim keep words) (entryAt d s) (entryAt d keep)
+      (omega (arith, room-words s post)) (omega (arith, all)) one (trim-blocks keep words d) (omega arith) (omega (arith, nd .least)) (omega arith) (omega (arith, nd .least)) in
+      written-goes n a ledger renamed (pre ++ (trim keep words ++ behind)) _ (g .long)
+      (kept-lawful (length a) needed s keep pre post (chunks-lawful a (g .is-sound) (pre ++ live s ∷ post) (is .same)) nd k)
+      (rw (← is .number-is) (ap (λ (es : Ledger). enter (entryAt d keep) (strike (d + headerWords) es)) (lists-as (pre ++ (live s ∷ roomTail post ++ behind)) same) ∙ l)) names
 
   -- ---- a need is granted from any free chunk that fits, between `pre` and `post`
 

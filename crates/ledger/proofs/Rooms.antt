@@ -1,24 +1,25 @@
--- When alloc, relocate and realloc are refused for want of room, and when a resize would move its block, told by the ledger: the gaps that its blocks leave are the arena's free chunks, and gaps of 0 words.
+-- When alloc, relocate and realloc are refused for want of room, when a resize would move its block, and what a block beside a gap is granted, told by the ledger: the gaps that its blocks leave are the arena's free chunks, and gaps of 0 words.
 use mathlib.Core.Path.{_≡_, refl, sym, ap, _∙_}
 use mathlib.Core.Logic.{_↔_, Iff·symm, Iff·trans}
 use mathlib.Core.Bool.{true, false}
-use mathlib.Core.List.{List, _∷_, _++_}
-use Prim.Native.Nat.{ℕ, _+_}
+use mathlib.Core.List.{List, [], _∷_, _++_}
+use Prim.Native.Nat.{ℕ, _+_, _-_, _≤_, _<_}
 use native.Mathlib.Omega.{arith}
 use Rattle.layout.specs.Numbers.{controlWords, firstChunk, headerWords, need}
-use Rattle.layout.specs.Chunks.{Chunk, live, total}
+use Rattle.layout.specs.Chunks.{Chunk, free, live, total}
 use Rattle.layout.specs.Walk.{sound, chunksOf}
 use Rattle.layout.specs.Reasons.{number}
 use Rattle.layout.specs.declared.Reason.{Reason}
 use Rattle.layout.specs.declared.Reason.the-variants.{NoRoom, WouldMove}
-use Rattle.layout.proofs.Holds.{Sizes, sizes-split, total-append}
+use Rattle.layout.proofs.Holds.{total-append}
 use Rattle.arena.specs.Inside.Rooms.{roomWords}
-use Rattle.arena.specs.Answers.{Answer}
+use Rattle.arena.specs.Answers.{Answer, Outcome, success}
 use Rattle.arena.specs.Calls.{allocOn, resizeOn, relocateOn, reallocOn}
 use Rattle.arena.proofs.Joining.{spaced-after}
-use Rattle.arena.proofs.Blocks.{BlockAt, NoGap, block-held}
+use Rattle.arena.proofs.Blocks.{BlockAt, NoGap, block-sizes, block-held}
 use Rattle.arena.proofs.Causes.{Request, Grounds, Short, ShortBlock, RegrantRefused}
 use Rattle.arena.proofs.Regranting.{short-room}
+use Rattle.arena.proofs.Shrinking.{resize-hands-over, realloc-hands-over}
 use Rattle.arena.proofs.Reasons.{only-last, alloc-refused, alloc-done, resize-refused, resize-done, relocate-refused, relocate-done, realloc-refused, realloc-done}
 use Rattle.ledger.specs.Ledger.{Entry, Ledger, Done, Listed, ends}
 use Rattle.ledger.specs.Gaps.{gapFrom, gaps, EachShorter, RoomShorter}
@@ -51,13 +52,17 @@ module _ (n : ℕ) (a : List ℕ) (ledger : Ledger) (agrees : Agrees n a ledger)
   no-gap : (w : ℕ) → NoGap a (need w) ↔ EachShorter (need w) (gaps n ledger)
   no-gap w = rw gaps-agree (Iff·symm (gaps-shorter (need w) (chunksOf a) (agrees-lawful n a ledger agrees .spaced) (omega arith)))
 
-  -- a block with its header, and the gap right above it, are its room
+  -- a block with its header is its chunk
+  block-whole : (above : Ledger) (e : Entry) (k : Chunked firstChunk (chunksOf a) e above) → headerWords + e .granted ≡ k .s
+  block-whole above e k =
+      omega (arith, block-sizes a _ _ _ _ (agrees .is-sound) (chunked-block k) .1, ap (λ (f : Entry). f .granted) (k .is))
+
+  -- and with the gap right above it, its room
   block-room : (above : Ledger) (e : Entry) (k : Chunked firstChunk (chunksOf a) e above)
       → headerWords + e .granted + gapFrom n (ends e) above ≡ roomWords (k .s) (k .post)
   block-room above e k =
       let law = agrees-lawful n a ledger agrees in
-      let z : Sizes (live (k .s) ∷ k .post) = sizes-split (k .pre) (live (k .s) ∷ k .post) (rw (k .same) at (law .sizes)) .1 in
-      let whole : headerWords + e .granted ≡ k .s = omega (arith, z .1, ap (λ (f : Entry). f .granted) (k .is)) in
+      let whole = block-whole above e k in
       let end : ends e ≡ firstChunk + total (k .pre) + k .s = omega (arith, ap (λ (f : Entry). f .block) (k .is)) in
       let fills = ap total (k .same) ∙ total-append (k .pre) (live (k .s) ∷ k .post) in
       rw (k .above-is, end, whole)
@@ -125,3 +130,32 @@ module _ (n : ℕ) (a : List ℕ) (ledger : Ledger) (agrees : Agrees n a ledger)
         let k = agrees-chunked n a ledger agrees below e above q in
         regrant-room (k .pre) (k .s) (k .post) (e .block) (chunked-block k) w r _ _ _ _ _ (realloc-refused a (e .block) w NoRoom) (realloc-done a (e .block) w)
         (λ h. (gap .0 (h .2), own .0 (h .1))) (λ h. absurd h) (λ short. (agrees .is-sound, (lawful-request w r, own .1 (short .1), gap .1 (short .0))))
+
+    -- ---- beside a gap a block gives up all that its need leaves over
+
+    -- a free chunk stands right after the block
+    abbrev BesideFree : Type 0
+    BesideFree = (pre : List Chunk) × (s : ℕ) × (t : ℕ) × (post : List Chunk) × BlockAt a (e .block) pre s (free t ∷ post) × (headerWords + e .granted ≡ s)
+
+    -- a gap right above it is one
+    gap-chunk : 0 < gapFrom n (ends e) above → BesideFree
+    gap-chunk gap = go (k .post) (chunked-block k) (omega (arith, block-room above e k, block-whole above e k))
+      where
+        k : Chunked firstChunk (chunksOf a) e above
+        k = agrees-chunked n a ledger agrees below e above q
+
+        go : (post : List Chunk) → BlockAt a (e .block) (k .pre) (k .s) post → k .s < roomWords (k .s) post → BesideFree
+        go [] is more = absurd (omega arith)
+        go (live t ∷ post) is more = absurd (omega arith)
+        go (free t ∷ post) is more = (k .pre, k .s, t, post, is, block-whole above e k)
+
+    module _ (gap : 0 < gapFrom n (ends e) above) (enough : need w ≤ headerWords + e .granted) where
+      pub resize-shrinks : resizeOn a (e .block) w .answer ≡ success (e .block ∷ (need w - headerWords) ∷ [])
+      resize-shrinks =
+          let (pre, s, t, post, is, whole) = gap-chunk gap in
+          ap (λ (o : Outcome). o .answer) (resize-hands-over a (e .block) pre s t post (agrees .is-sound) is w (lawful-request w r) (omega arith))
+
+      pub realloc-shrinks : reallocOn a (e .block) w .answer ≡ success (e .block ∷ (need w - headerWords) ∷ [])
+      realloc-shrinks =
+          let (pre, s, t, post, is, whole) = gap-chunk gap in
+          ap (λ (o : Outcome). o .answer) (realloc-hands-over a (e .block) pre s t post (agrees .is-sound) is w (lawful-request w r) (omega arith))

@@ -19,7 +19,8 @@ use Rattle.arena.specs.Calls.{freeOn, sizeOn, viewOn, reportOn}
 use Rattle.arena.proofs.Gates.{sound-lawful, sound-gate}
 use Rattle.arena.proofs.Blocks.{NoBlock, block-held}
 use Rattle.arena.proofs.Cases.{Case, refuses, does, Allots, allots, alloc-case}
-use Rattle.arena.proofs.Regranting.{Resizes, shrinks, grows, Relocates, moves, Regrants, in-place, elsewhere, resize-case, relocate-case, realloc-case}
+use Rattle.arena.proofs.Staying.{kept-numbers}
+use Rattle.arena.proofs.Regranting.{Resizes, resizes, Relocates, moves, Regrants, in-place, elsewhere, resize-case, relocate-case, realloc-case}
 use Rattle.arena.proofs.Corners.{view-empty, resize-stays, relocate-moves}
 use Rattle.arena.proofs.Reasons.{arena-refused, start-refused, alloc-refused, free-refused, resize-refused, relocate-refused, realloc-refused, size-refused, report-refused}
 use Rattle.ledger.specs.Events.{Call, start, alloc, free, resize, relocate, realloc, size, view, report, ours}
@@ -77,8 +78,7 @@ alloc-grants : (a : List ℕ) (w : ℕ) (values after : List ℕ) → Allots a w
 alloc-grants a w values after (allots e r pre s post is) = need-taken w s (is .enough)
 
 resize-grants : (a : List ℕ) (b w : ℕ) (values after : List ℕ) → Resizes a b w values after → HasNeed w (headerWords + told (success values) .granted)
-resize-grants a b w values after (shrinks e r pre s post is l) = need-taken w s l
-resize-grants a b w values after (grows e r pre s t post is l m) = need-taken w (s + t) m
+resize-grants a b w values after (resizes e r pre s post is keep k) = omega (arith, kept-numbers (need w) s keep post k)
 
 relocate-grants : (a : List ℕ) (b w : ℕ) (values after : List ℕ) → Relocates a b w values after → HasNeed w (headerWords + told (success values) .granted)
 relocate-grants a b w values after (moves e r pre s post is before t behind gap block at-is ks same count shorter) = need-taken w t (gap .enough)

@@ -2,26 +2,27 @@
 use Prim.Native.Nat.{ℕ, _+_, _-_, _≤_}
 use mathlib.Core.Path.{_≡_, refl, _∙_, ap}
 use mathlib.Core.Logic.{_≢_, inl, ⊎-elim}
-use mathlib.Core.Bool.{true}
+use mathlib.Core.Bool.{true, cond}
 use mathlib.Core.List.{List, [], _∷_}
 use native.Mathlib.Nat.{add-zero}
 use native.Mathlib.Omega.{arith}
+use lib.Dec.{eqb}
 use lib.ListN.{length, getD, set, replicate}
 use borrow.Author.Tests.{le-leb}
 use Rattle.layout.specs.Numbers.{controlWords, lawful, greatestRequest, need}
 use Rattle.layout.specs.Chunks.{header, write, written}
 use Rattle.layout.specs.Walk.{meet, walk, walkFrom, walked, sound, chunksOf}
 use Rattle.layout.specs.Reasons.{arenaGate, requestGate}
-use Rattle.arena.specs.Answers.{success}
+use Rattle.arena.specs.Answers.{Answer, Outcome, success}
 use Rattle.arena.specs.Spots.{lowest}
 use Rattle.arena.specs.Rules.{joined, copied}
-use Rattle.arena.specs.Calls.{startOn, allocBy, regrantBy, reportOn}
+use Rattle.arena.specs.Calls.{startOn, allocBy, freeOn, regrantBy, sizeOn, reportOn}
 use Rattle.ledger.specs.Events.{Call, start, alloc, free, resize, relocate, realloc, size, view, report, call, store, Library, ours}
 use Rattle.ledger.specs.Gaps.{RoomShorter}
 use Rattle.ledger.specs.Ledger.{enter, strike, told, Done, begins, ends}
 use Rattle.ledger.specs.Runs.{Allowed, Run, begun, next}
 use Rattle.ledger.specs.Holders.{just, still}
-use Rattle.ledger.specs.Demands.{Starts, Lengths, Apart, Inside, Keeps, Lasts, Sums, RoomForAlloc, RoomForResize, RoomForRelocate, RoomForRealloc, freeWordsIn, liveBlocksIn, Known}
+use Rattle.ledger.specs.Demands.{Starts, Lengths, Apart, Inside, Keeps, Lasts, Sums, RoomForAlloc, RoomForResize, RoomForRelocate, RoomForRealloc, ShrinksToNeed, freeWordsIn, liveBlocksIn, Known}
 use Rattle.ledger.proofs.Examples.{clash}
 
 -- ---- what the room rule asks of a new arena: its first alloc is done
@@ -231,17 +232,21 @@ resize-moves library moves room known resizes =
     let done = a-resize library room known resizes in
     moves _ 2 _ done (known 6 _ (in-six library room .once) .resize-stays _ 2 done)
 
--- each call is ours, but a resize moves the block where it cannot stay
+-- each call is ours, but resize is another
+abbrev withResize : (ℕ → ℕ → List ℕ → Outcome) → Library
+withResize other start a = ours start a
+withResize other (alloc w) a = ours (alloc w) a
+withResize other (free b) a = ours (free b) a
+withResize other (resize b w) a = other b w a
+withResize other (relocate b w) a = ours (relocate b w) a
+withResize other (realloc b w) a = ours (realloc b w) a
+withResize other (size b) a = ours (size b) a
+withResize other (view b) a = ours (view b) a
+withResize other report a = ours report a
+
+-- a resize moves the block where it cannot stay
 abbrev pub resizeReallocates : Library
-resizeReallocates start a = ours start a
-resizeReallocates (alloc w) a = ours (alloc w) a
-resizeReallocates (free b) a = ours (free b) a
-resizeReallocates (resize b w) a = ours (realloc b w) a
-resizeReallocates (relocate b w) a = ours (relocate b w) a
-resizeReallocates (realloc b w) a = ours (realloc b w) a
-resizeReallocates (size b) a = ours (size b) a
-resizeReallocates (view b) a = ours (view b) a
-resizeReallocates report a = ours report a
+resizeReallocates = withResize (λ b w a. ours (realloc b w) a)
 
 -- a block is known to stay: of 16 words, block 10 has no room above it, and the resize answers block 4
 pub resize-reallocates : Known resizeReallocates → ⊥
@@ -249,6 +254,24 @@ unfolding startOn allocBy regrantBy arenaGate requestGate sound chunksOf walked 
 resize-reallocates known =
     let held : Run resizeReallocates 16 _ = next (next (begun (replicate 16 0) refl refl) (call (alloc 2)) tt) (call (alloc 2)) tt in
     let stays : _≡_ {A = ℕ} 4 10 = known 16 _ held .resize-stays 10 4 refl in
+    omega arith
+
+-- ---- one that loses two words when shrinking
+
+-- a resize that would give up two words answers the words that the block has, and writes nothing
+abbrev pub losesTwoWords : Library
+losesTwoWords =
+    withResize (λ b w a.
+    let had = getD (ours (size b) a .answer .values) 0 0 in
+    let resized = ours (resize b w) a in
+    cond (eqb (told (resized .answer) .granted + 2) had) (record { answer = success (b ∷ had ∷ []); words = a }) resized)
+
+-- beside a gap a block shrinks to its need: of 16 words, block 4 has 6 and a gap above it, and is asked for 4
+pub loses-two-words : ShrinksToNeed losesTwoWords resize → ⊥
+unfolding startOn allocBy freeOn regrantBy sizeOn arenaGate requestGate sound chunksOf walked walkFrom walk meet lowest joined copied written write header enter strike
+loses-two-words shrinks =
+    let held : Run losesTwoWords 16 _ = next (next (next (begun (replicate 16 0) refl refl) (call (alloc 4)) tt) (call (alloc 4)) tt) (call (free 12)) tt in
+    let granted : _≡_ {A = ℕ} 6 4 = ap (λ (answer : Answer). told answer .granted) (shrinks 16 _ held [] [] (record { block = 4; granted = 6 }) refl 4 (omega arith) (omega arith) (omega arith)) in
     omega arith
 
 -- ---- one that never relocates, and one that leaves the block where it is

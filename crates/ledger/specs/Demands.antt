@@ -12,7 +12,7 @@ use Rattle.layout.specs.declared.Reason.the-variants.{Length, Damaged, NotABloc
 use Rattle.arena.specs.Answers.{Answer, success}
 use Rattle.ledger.specs.Events.{Call, start, alloc, free, resize, relocate, realloc, size, view, report, Event, Library}
 use Rattle.ledger.specs.Ledger.{Entry, Ledger, told, Done, Listed, Unlisted, begins, ends, heldWords}
-use Rattle.ledger.specs.Gaps.{gaps, EachShorter, RoomShorter}
+use Rattle.ledger.specs.Gaps.{gapFrom, gaps, EachShorter, RoomShorter}
 use Rattle.ledger.specs.Runs.{State, Allowed, after, Run}
 use Rattle.ledger.specs.Holders.{wordAfter, numberAfter, Ended, StoredLast}
 
@@ -100,6 +100,13 @@ module _ (library : Library) where
   RoomForRelocate relocates =
       (n : ℕ) (s : State) → Run library n s → (e : Entry) → Listed (s .ledger) e → (w : ℕ) → LawfulRequest n w
       → RefusedWhen NoRoom (EachShorter (need w) (gaps n (s .ledger))) (library (relocates (e .block) w) (s .words) .answer)
+
+  -- item 3: a block with a gap right above it, whose own words and header have the need of a lawful request, stays and is granted just the need: in the ledger all words over fall to the gap
+  abbrev pub ShrinksToNeed : (ℕ → ℕ → Call) → Type 0
+  ShrinksToNeed resizes =
+      (n : ℕ) (s : State) → Run library n s → (below above : Ledger) (e : Entry) → s .ledger ≡ below ++ e ∷ above → (w : ℕ) → LawfulRequest n w
+      → 0 < gapFrom n (ends e) above → need w ≤ headerWords + e .granted
+      → library (resizes (e .block) w) (s .words) .answer ≡ success (e .block ∷ (need w - headerWords) ∷ [])
 
   -- a call on a block is answered 3 exactly for a number that is not in the ledger
   abbrev pub NeedsBlock : (ℕ → Call) → List ℕ → Ledger → Type 0

@@ -15,12 +15,14 @@ use Rattle.layout.proofs.Bounds.{AllBelow}
 use Rattle.layout.proofs.Holds.{total-append}
 use Rattle.layout.proofs.Round.{sound-chunks}
 use Rattle.arena.specs.Answers.{Outcome}
-use Rattle.arena.specs.Rules.{taken}
+use Rattle.arena.specs.Inside.Rooms.{roomWords, roomAfter}
 use Rattle.arena.specs.Calls.{startOn, allocOn, freeOn, reallocOn, reportOn}
 use Rattle.arena.proofs.Moving.{cut-numbers}
 use Rattle.arena.proofs.Tallying.{counts-small}
 use Rattle.arena.proofs.Cases.{Case, refuses, does, Starts, starts, start-case, Allots, allots, alloc-case, Frees, frees, free-case, Reports, reports, report-case}
-use Rattle.arena.proofs.Regranting.{shrinks, grows, moves, Regrants, in-place, elsewhere, realloc-case}
+use Rattle.arena.proofs.Room.{roomTail, room-split, room-words}
+use Rattle.arena.proofs.Staying.{kept-numbers}
+use Rattle.arena.proofs.Regranting.{resizes, moves, Regrants, in-place, elsewhere, realloc-case}
 use Rattle.lines.specs.Digits.{twoDigitValues, fourDigitValues}
 
 -- ---- the code
@@ -59,12 +61,12 @@ case-fits {fields} f (refuses why r) = record { count = length-replicate fields 
 case-fits f (does {values} {after} d) = f values after d
 
 module _ (a : List ℕ) where
-  -- a need that is granted of the words of some chunks, `old`, gives two fields that fit
-  granted-fits : sound a ≡ true → (pre old post : List Chunk) (words needed block : ℕ) → chunksOf a ≡ pre ++ (old ++ post) → words ≡ total old → needed ≤ words
-      → block ≤ firstChunk + total pre + words + headerWords → Fits 2 (block ∷ (taken needed words - headerWords) ∷ [])
-  granted-fits e pre old post words needed block same all enough near =
+  -- of the words of some chunks, `old`, so many are granted, header counted: that gives two fields that fit
+  granted-fits : sound a ≡ true → (pre old post : List Chunk) (words got block : ℕ) → chunksOf a ≡ pre ++ (old ++ post) → words ≡ total old → got ≤ words
+      → block ≤ firstChunk + total pre + words + headerWords → Fits 2 (block ∷ (got - headerWords) ∷ [])
+  granted-fits e pre old post words got block same all within near =
       let law = sound-chunks a e .law in
-      omega (arith, ap total same, total-append pre (old ++ post), total-append old post, cut-numbers needed words enough .within)
+      omega (arith, ap total same, total-append pre (old ++ post), total-append old post)
 
   -- a start answers no field
   pub start-fits : Fits 0 (startOn a .answer .values)
@@ -79,7 +81,7 @@ module _ (a : List ℕ) where
     where
       go : (values after : List ℕ) → Allots a n values after → Fits 2 values
       go values after (allots e r pre s post is) =
-          granted-fits e pre (free s ∷ []) post s (need n) _ (is .same) (omega arith) (is .enough) (omega arith)
+          granted-fits e pre (free s ∷ []) post s _ _ (is .same) (omega arith) (cut-numbers (need n) s (is .enough) .within) (omega arith)
 
   -- free answers no field
   pub free-fits : (b : ℕ) → Fits 0 (freeOn a b .answer .values)
@@ -93,12 +95,11 @@ module _ (a : List ℕ) where
   realloc-fits b n = case-fits go (realloc-case a b n)
     where
       go : (values after : List ℕ) → Regrants a b n values after → Fits 2 values
-      go values after (in-place (shrinks e r pre s post is l)) =
-          granted-fits e pre (live s ∷ []) post s (need n) b (is .same) (omega arith) l (omega arith)
-      go values after (in-place (grows e r pre s t post is l m)) =
-          granted-fits e pre (live s ∷ free t ∷ []) post (s + t) (need n) b (is .same) (omega arith) m (omega arith)
+      go values after (in-place (resizes e r pre s post is keep k)) =
+          granted-fits e pre (live s ∷ roomTail post) (roomAfter post) (roomWords s post) keep b (room-split pre s post (is .same)) (room-words s post)
+          (kept-numbers (need n) s keep post k .within) (omega (arith, is .number-is))
       go values after (elsewhere (moves e r pre s post is before g behind gap block at-is ks same count fewer)) =
-          granted-fits e before (free g ∷ []) behind g (need n) block (gap .same) (omega arith) (gap .enough) (omega arith)
+          granted-fits e before (free g ∷ []) behind g _ block (gap .same) (omega arith) (cut-numbers (need n) g (gap .enough) .within) (omega arith)
 
   -- report answers four numbers, and all fit
   pub report-fits : Fits 4 (reportOn a .answer .values)
