@@ -141,11 +141,15 @@ module _ (a : List ℕ) (b : ℕ) (pre : List Chunk) (s t : ℕ) (post : List Ch
       subst (λ (ks : List Chunk). Lawful (length a) (pre ++ ks)) handed-over
       (kept-lawful (length a) (need n) s (need n) pre (free t ∷ post) (rw (is .same) at (sound-chunks a e .law)) needed (its-need (omega (arith, sizes .2 .1))))
 
-  -- "whose start moves down": the link that named it names its new start
-  pub link-follows : getD after (linkAt listWord firstChunk pre) 0 ≡ firstChunk + total pre + need n
-  link-follows =
-      let behind : List Chunk = live (need n) ∷ free (s - need n + t) ∷ post in
-      chain-first after _ (firstChunk + total pre) behind (chain-behind after pre behind (firstChunk + total pre) (written-arena shrunk a lawful) refl)
+  -- the word that names the free chunk, whatever the sizes of the block and of that chunk are
+  free-named : (words : List ℕ) (size next : ℕ) → Arena words (pre ++ live size ∷ free next ∷ post) → getD words (linkAt listWord firstChunk pre) 0 ≡ firstChunk + total pre + size
+  free-named words size next made =
+      let behind : List Chunk = live size ∷ free next ∷ post in
+      chain-first words _ (firstChunk + total pre) behind (chain-behind words pre behind (firstChunk + total pre) made refl)
+
+  -- "whose start moves down": the link that named its old start names the new one
+  pub link-follows : (getD a (linkAt listWord firstChunk pre) 0 ≡ firstChunk + total pre + s) × (getD after (linkAt listWord firstChunk pre) 0 ≡ firstChunk + total pre + need n)
+  link-follows = (free-named a s t (rw (is .same) at (sound-chunks a e)), free-named after (need n) (s - need n + t) (written-arena shrunk a lawful))
 
   -- its old header is swallowed, and keeps both its words
   pub header-kept : need n < s → (i : ℕ) → i < headerWords → getD after (firstChunk + total pre + s + i) 0 ≡ getD a (firstChunk + total pre + s + i) 0
