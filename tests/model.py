@@ -148,8 +148,10 @@ def free_rule(words, block):
 
 
 def kept_of(size, room, need):
-    """How much of its room a block keeps: a gap right above takes all words that a shrink leaves over, however few."""
-    return need if need <= size < room else taken_from(room, need)
+    """How much a block keeps that grows into its room, or shrinks: then a gap right above takes all the rest."""
+    if need > size:
+        return taken_from(room, need)
+    return need if room > size else taken_from(size, need)
 
 
 def stayed(words, block, asked):
