@@ -1,30 +1,57 @@
-"""Runs all drivers one after the other, prints one line for each, and ends nonzero if any fails."""
+"""Runs every driver, tests/test_*.py, as many at a time as there are cores; ends nonzero if any fails."""
 
 import argparse
+import glob
 import os
 import subprocess
 import sys
+import time
+from concurrent.futures import ThreadPoolExecutor, as_completed
 
-DRIVERS = ["teeth", "document_rows", "call_rows", "small_arenas", "pages", "random_lines", "damaged_arenas",
-           "full_board"]
+TESTS = os.path.dirname(os.path.abspath(__file__))
+
+# Those that take longest begin first; the others follow by name.
+LONGEST = ["test_teeth_arenas", "test_teeth_rows", "test_damaged_arenas", "test_teeth", "test_random_lines"]
+
+
+def drivers():
+    """The names of all drivers, in the order in which they begin."""
+    names = sorted(os.path.basename(path)[:-len(".py")] for path in glob.glob(os.path.join(TESTS, "test_*.py")))
+    return sorted(names, key=lambda name: LONGEST.index(name) if name in LONGEST else len(LONGEST))
+
+
+def cores():
+    """How many processors this may use."""
+    return len(os.sched_getaffinity(0)) if hasattr(os, "sched_getaffinity") else os.cpu_count() or 1
+
+
+def run(name, words):
+    """Runs a driver: its name, whether it passed, all that it said, and how many seconds it took.
+
+    A driver that passes ends with a line that begins with its name: a file that compares nothing has none.
+    """
+    begun = time.monotonic()
+    command = [sys.executable, os.path.join(TESTS, name + ".py"), *words]
+    ended = subprocess.run(command, stdout=subprocess.PIPE, stderr=subprocess.STDOUT, text=True)
+    said = ended.stdout.strip()
+    passed = ended.returncode == 0 and said.split("\n")[-1].startswith(name + ": ")
+    return name, passed, said, time.monotonic() - begun
 
 
 def main():
-    """Runs them with the seed given, if one is."""
+    """Runs them with the seed given, if one is, and prints what each said once it has ended."""
     parser = argparse.ArgumentParser(description=__doc__)
     parser.add_argument("--seed", type=int, help="where the random numbers start, for every driver")
     seed = parser.parse_args().seed
     words = [] if seed is None else ["--seed", str(seed)]
-    failed = []
-    for name in DRIVERS:
-        path = os.path.join(os.path.dirname(os.path.abspath(__file__)), name + ".py")
-        command = [sys.executable, path, *words]
-        ended = subprocess.run(command, stdout=subprocess.PIPE, stderr=subprocess.STDOUT, text=True)
-        print(ended.stdout.strip(), flush=True)
-        if ended.returncode != 0:
-            failed.append(name)
+    failed = [] if drivers() else ["there are none"]
+    with ThreadPoolExecutor(max_workers=cores()) as pool:
+        for ended in as_completed([pool.submit(run, name, words) for name in drivers()]):
+            name, passed, said, seconds = ended.result()
+            print(f"{said} ({seconds:.1f} s)" if passed else f"{said}\n{name}: FAILED ({seconds:.1f} s)", flush=True)
+            failed += [] if passed else [name]
     if failed:
-        print(f"tests: FAILED: {' '.join(failed)}")
+        print(f"tests: FAILED: {' '.join(sorted(failed))}")
         sys.exit(1)
 
 

@@ -1,33 +1,4 @@
--- The laws of the rules, and the theorems about the calls.
-pub mod Gates
-pub mod Spots
-pub mod Standing
-pub mod Taking
-pub mod Joining
-pub mod Passing
-pub mod Searching
-pub mod Room
-pub mod Copying
-pub mod Releasing
-pub mod Allotting
-pub mod Tallying
-pub mod Finding
-pub mod Staying
-pub mod Moving
-pub mod Relocating
+-- The laws of the calls' gates, their answers and their views.
+pub mod Locating
+pub mod Granting
 pub mod Viewing
-pub mod Following
-pub mod Determined
-pub mod Blocks
-pub mod Causes
-pub mod Cases
-pub mod Regranting
-pub mod Targeting
-pub mod Refusing
-pub mod Reallocating
-pub mod Starting
-pub mod Keeping
-pub mod Reasons
-pub mod Largest
-pub mod Shrinking
-pub mod Corners

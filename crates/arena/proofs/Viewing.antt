@@ -1,30 +1,28 @@
 -- The part of an arena that is a block: its words, where they lie, and that the arena has them.
-use mathlib.Core.Path.{_≡_, refl, sym, ap, _∙_}
-use mathlib.Core.List.{List, [], _∷_}
+use mathlib.Core.Path.{_≡_, sym, ap, _∙_}
+use mathlib.Core.List.{List, [], _∷_, _++_}
 use Prim.Native.Nat.{ℕ, _+_, _-_, _≤_}
 use native.Mathlib.Nat.{zero-add}
 use native.Mathlib.Omega.{arith}
 use borrow.Author.Tests.{ne-eqb}
 use lib.ListN.{length, getD, take, drop}
-use Rattle.layout.specs.Numbers.{firstChunk, listWord, headerWords}
-use Rattle.layout.specs.Chunks.{live, size, total}
-use Rattle.layout.specs.Walk.{chunksOf}
-use Rattle.layout.specs.Links.{linkAt}
-use Rattle.layout.specs.Reasons.{number, arenaGate}
-use Rattle.layout.specs.declared.Gate.{Gate}
-use Rattle.layout.specs.declared.Gate.the-variants.{Open, Shut}
+use Rattle.layout.specs.Numbers.{firstChunk, headerWords}
+use Rattle.layout.specs.Chunks.{live, total}
+use Rattle.layout.specs.Reasons.{number}
 use Rattle.layout.specs.declared.Reason.{Reason}
+use Rattle.layout.proofs.Holds.{Lawful, total-append}
 use Rattle.layout.proofs.Reasons.{number-positive}
-use Rattle.arena.specs.declared.Sized.{Sized}
-use Rattle.arena.specs.declared.Sized.the-variants.{Words, Refused as NotSized}
-use Rattle.arena.specs.Answers.{Answer, success, sizedNumbers, done, settle, pass}
-use Rattle.arena.specs.Spots.{Spot, nowhere, at, held}
-use Rattle.arena.specs.Rules.{grantedAt}
-use Rattle.arena.specs.Calls.{onBlock, sizeOn, viewOn, viewFrom, wordAt, Views}
-use Rattle.arena.specs.Inside.Places.{placeOf}
-use Rattle.arena.proofs.Gates.{gate-open}
-use Rattle.arena.proofs.Standing.{reads}
-use Rattle.arena.proofs.Finding.{found-block}
+use Rattle.layout.proofs.Round.{sound-chunks}
+use Rattle.rules.specs.Answers.{Answer, Outcome, success}
+use Rattle.rules.specs.Calls.{sizeOn, viewOn}
+use Rattle.rules.specs.Causes.{BlockRefused}
+use Rattle.rules.proofs.Searches.{block-sizes}
+use Rattle.rules.proofs.CallCases.{Case, refuses, does, Measures, measures, size-case}
+use Rattle.answers.specs.Readings.{sizedNumbers}
+use Rattle.answers.specs.declared.Sized.{Sized}
+use Rattle.answers.specs.declared.Sized.the-variants.{Words, Refused as NotSized}
+use Rattle.answers.proofs.Determined.{agree}
+use Rattle.arena.specs.Views.{viewFrom, wordAt, Views}
 
 -- `size` answers `sized` for block `b` of the arena `a`
 module _ (a : List ℕ) (b : ℕ) (sized : Sized) (answers : sizedNumbers sized ≡ sizeOn a b .answer) where
@@ -33,7 +31,8 @@ module _ (a : List ℕ) (b : ℕ) (sized : Sized) (answers : sizedNumbers sized 
   view-none place why e =
       record {
         holds = rw (← answers, e);
-        stands = rw (← answers, e, ne-eqb (number why) 0 (omega (arith, number-positive why))) (ap (λ (byte : ℕ). (place .0, byte)) (sym (zero-add (place .1))));
+        stands = rw (← answers, e, ne-eqb (number why) 0 (omega (arith, number-positive why)))
+            (ap (λ (byte : ℕ). (place .0, byte)) (sym (zero-add (place .1))));
       }
 
   -- the code's part of the arena: `words` words from word `from` on
@@ -45,15 +44,18 @@ module _ (a : List ℕ) (b : ℕ) (sized : Sized) (answers : sizedNumbers sized 
         record { holds = rw (← answers, e, n, from-is); stands = rw (← answers, e, from-is) }
 
     pub view-within : from + words ≤ length a
-    unfolding sizeOn placeOf
-    view-within = go (arenaGate a) (held b (chunksOf a)) refl refl (ap sizedNumbers (sym e) ∙ answers)
+    view-within = go (size-case a b) (ap sizedNumbers (sym e) ∙ answers)
       where
-        go : (gate : Gate) (spot : Spot) → gate ≡ arenaGate a → held b (chunksOf a) ≡ spot
-            → success (granted ∷ []) ≡ settle 1 a (pass gate (onBlock spot (done (grantedAt spot ∷ []) a))) .answer → from + words ≤ length a
-        go (Shut why) spot g q p = absurd (omega (arith, ap (λ (r : Answer). r .code) p, number-positive why))
-        go Open nowhere g q p = absurd (omega (arith, ap (λ (r : Answer). r .code) p))
-        go Open (at pre k post) g q p =
-            let f = found-block a b (linkAt listWord firstChunk pre) (firstChunk + total pre) (gate-open a g) (rw q refl) in
-            let same : k ≡ live (f .block .s) = cc (f .spot) in
-            let size-is : granted ≡ size k - headerWords = ap (λ (r : Answer). getD (r .values) 0 0) p in
-            omega (arith, ap size same, f .number-is, reads _ _ _ _ _ _ (f .block .stands))
+        go : {outcome : Outcome} → Case 1 a (BlockRefused a b) (Measures a b) outcome → success (granted ∷ []) ≡ outcome .answer
+            → from + words ≤ length a
+        go (refuses why r) p = absurd (omega (arith, ap (λ (r : Answer). r .code) p, number-positive why))
+        go (does (measures is-sound pre s post is)) p =
+            let size-is : granted ≡ s - headerWords = ap (λ (r : Answer). getD (r .values) 0 0) p in
+            let l : Lawful (length a) (pre ++ live s ∷ post) = rw (is .same) at (sound-chunks a is-sound .law) in
+            let fills : firstChunk + (total pre + (s + total post)) ≡ length a = simp total-append at (l .fills) in
+            omega (arith, is .number-is, block-sizes a b pre s post is-sound is .1)
+
+-- a view answers a part of the arena: two that its promise allows hold the same words, and lie at the same place
+pub view-determined : (a : List ℕ) (place : ℕ × ℕ) (b : ℕ) (part part′ : List ℕ) (lies lies′ : ℕ × ℕ)
+    → Views a place b part lies → Views a place b part′ lies′ → (part ≡ part′) × (lies ≡ lies′)
+view-determined a place b part part′ lies lies′ v v′ = (agree (v .holds) (v′ .holds), agree (v .stands) (v′ .stands))

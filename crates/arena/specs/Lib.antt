@@ -1,5 +1,2 @@
-pub mod Answers
-pub mod Spots
-pub mod Rules
-pub mod Calls
-pub mod Inside
+pub mod Views
+pub mod Targets

@@ -1,52 +1,24 @@
-// An allocator over one lent arena of 32-bit words. A call asks nothing of its caller: it is done as the rules say, or it is refused with a reason and changes nothing.
-mod grant;
-mod places;
-mod release;
-mod stores;
-mod tally;
+// An allocator over one lent arena of 32-bit words. A call asks nothing of its caller: it is done as the rules say, or
+// it is refused with a reason and changes nothing.
 mod targets;
-mod ways;
 
-use grant::Way;
+pub use answers::Finish;
+pub use answers::Granted;
+pub use answers::Reported;
+pub use answers::Sized;
 use layout::Gate;
 use layout::Reason;
 use layout::wide;
-use places::Place;
+use targets::Located;
 use targets::Target;
+use ways::Way;
 ghost use mathlib.Core.Path.{_≡_};
 ghost use denote.Ref.{ptr};
-ghost use Rattle.arena.specs.Answers.{Gives, finishNumbers, grantedNumbers, sizedNumbers, reportedNumbers};
-ghost use Rattle.arena.specs.Calls.{startOn, allocOn, freeOn, resizeOn, relocateOn, reallocOn, sizeOn, Views, reportOn};
-ghost use Rattle.arena.specs.Inside.Ways.{grantedOf};
-
-// What start and free answer.
-pub enum Finish {
-    Done,
-    Refused(layout::Reason),
-}
-
-// What alloc, resize, relocate and realloc answer.
-pub enum Granted {
-    Block { block: u32, granted: u32 },
-    Refused(layout::Reason),
-}
-
-// What size answers: the granted words.
-pub enum Sized {
-    Words(u32),
-    Refused(layout::Reason),
-}
-
-// What report answers.
-pub enum Reported {
-    Counts {
-        free_words: u32,
-        largest: u32,
-        live_blocks: u32,
-        free_chunks: u32,
-    },
-    Refused(layout::Reason),
-}
+ghost use Rattle.rules.specs.Answers.{Gives};
+ghost use Rattle.rules.specs.Calls.{startOn, allocOn, freeOn, resizeOn, relocateOn, reallocOn, sizeOn, reportOn};
+ghost use Rattle.answers.specs.Readings.{finishNumbers, grantedNumbers, sizedNumbers, reportedNumbers};
+ghost use Rattle.arena.specs.Views.{Views};
+ghost use Rattle.arena.specs.Targets.{grantedOf};
 
 // Makes the whole arena one free chunk.
 pub fn start(a: &mut [u32]) -> Finish
@@ -73,7 +45,7 @@ pub fn alloc(a: &mut [u32], n: u32) -> Granted
     if let Gate::Shut(why) = request {
         return Granted::Refused(why);
     }
-    let way = grant::allot(a, layout::need(wide(n)));
+    let way = ways::allot(a, layout::need(wide(n)));
     answer(way, Reason::NoRoom)
 }
 
@@ -81,16 +53,14 @@ pub fn alloc(a: &mut [u32], n: u32) -> Granted
 pub fn free(a: &mut [u32], b: u32) -> Finish
     ensures { λ r. ⌜ Gives (freeOn (now (a .entry)) b) (finishNumbers r) (now (a .exit)) ⌝ }
 {
-    let arena = layout::check_arena(a);
-    if let Gate::Shut(why) = arena {
-        return Finish::Refused(why);
+    let located = targets::locate(a, b);
+    match located {
+        Located::Chunk { link, chunk } => {
+            stores::release::release(a, link, chunk);
+            Finish::Done
+        }
+        Located::Refused(why) => Finish::Refused(why),
     }
-    let place = places::find(a, wide(b));
-    let Place::At(link, chunk) = place else {
-        return Finish::Refused(Reason::NotABlock);
-    };
-    release::release(a, link, chunk);
-    Finish::Done
 }
 
 // Makes block `b` one of at least `n` words where it stands; it keeps its number, or the call is refused.
@@ -100,7 +70,7 @@ pub fn resize(a: &mut [u32], b: u32, n: u32) -> Granted
     let target = targets::target_of(a, b, n);
     match target {
         Target::Block { link, chunk, need } => {
-            let way = ways::resize_at(a, link, chunk, need);
+            let way = ways::staying::resize_at(a, link, chunk, need);
             answer(way, Reason::WouldMove)
         }
         Target::Refused(why) => Granted::Refused(why),
@@ -114,7 +84,7 @@ pub fn relocate(a: &mut [u32], b: u32, n: u32) -> Granted
     let target = targets::target_of(a, b, n);
     match target {
         Target::Block { link, chunk, need } => {
-            let way = ways::relocate_at(a, link, chunk, need);
+            let way = ways::moving::relocate_at(a, link, chunk, need);
             answer(way, Reason::NoRoom)
         }
         Target::Refused(why) => Granted::Refused(why),
@@ -138,15 +108,13 @@ pub fn realloc(a: &mut [u32], b: u32, n: u32) -> Granted
 pub fn size(a: &[u32], b: u32) -> Sized
     ensures { λ r. ⌜ Gives (sizeOn (now (a .entry)) b) (sizedNumbers r) (now (a .entry)) ⌝ }
 {
-    let arena = layout::check_arena(a);
-    if let Gate::Shut(why) = arena {
-        return Sized::Refused(why);
+    let located = targets::locate(a, b);
+    match located {
+        Located::Chunk { link: _, chunk } => {
+            Sized::Words(layout::block_words(wide(a[chunk])) as u32)
+        }
+        Located::Refused(why) => Sized::Refused(why),
     }
-    let place = places::find(a, wide(b));
-    let Place::At(_, chunk) = place else {
-        return Sized::Refused(Reason::NotABlock);
-    };
-    Sized::Words(layout::block_words(wide(a[chunk])) as u32)
 }
 
 // The part of the arena that is block `b`, to read; no words where there is no such block.
@@ -183,8 +151,8 @@ pub fn report(a: &[u32]) -> Reported
     if let Gate::Shut(why) = arena {
         return Reported::Refused(why);
     }
-    let listed = tally::count_free(a);
-    let blocks = tally::count_live(a);
+    let listed = passes::tally::count_free(a);
+    let blocks = passes::tally::count_live(a);
     Reported::Counts {
         free_words: listed.words as u32,
         largest: listed.largest as u32,

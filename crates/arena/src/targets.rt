@@ -1,41 +1,60 @@
-// What a call that grants a block anew is asked for: which block, and what need.
-use super::places;
-use super::places::Place;
+// What a call asks for, once nothing stands in its way. The reasons are looked for in the order of their numbers.
 use layout::Gate;
 use layout::Reason;
 use layout::wide;
+use passes::places;
+use passes::places::Place;
 ghost use mathlib.Core.Path.{_≡_};
-ghost use Rattle.arena.specs.Inside.Targets.{targetOf};
+ghost use Rattle.arena.specs.Targets.{located, targetOf};
 
-// The block's link word, its chunk, and the need; or why the call is refused.
+// A block's chunk, and its link word; or why a call on the block is refused.
+pub(crate) enum Located {
+    Chunk { link: usize, chunk: usize },
+    Refused(Reason),
+}
+
+// Block `b`: the arena is checked, and the block is searched for.
+pub(crate) fn locate(a: &[u32], b: u32) -> Located
+    ensures { λ r. ⌜ r ≡ located (now (a .entry)) b ⌝ }
+{
+    let arena = layout::check_arena(a);
+    if let Gate::Shut(why) = arena {
+        return Located::Refused(why);
+    }
+    let place = places::find(a, wide(b));
+    let Place::At(link, chunk) = place else {
+        return Located::Refused(Reason::NotABlock);
+    };
+    Located::Chunk { link, chunk }
+}
+
+// The chunk of a block that is granted anew, its link word, and the need; or why the call is refused.
 pub(crate) enum Target {
     Block {
         link: usize,
         chunk: usize,
         need: usize,
     },
-    Refused(layout::Reason),
+    Refused(Reason),
 }
 
-// Block `b` and the need of `n` words. The reasons are looked for in the order of their numbers.
+// Block `b` and the need of `n` words.
 pub(crate) fn target_of(a: &[u32], b: u32, n: u32) -> Target
     ensures { λ r. ⌜ r ≡ targetOf (now (a .entry)) b n ⌝ }
 {
-    let arena = layout::check_arena(a);
-    if let Gate::Shut(why) = arena {
-        return Target::Refused(why);
-    }
-    let place = places::find(a, wide(b));
-    let Place::At(link, chunk) = place else {
-        return Target::Refused(Reason::NotABlock);
-    };
-    let request = layout::check_request(a.len(), wide(n));
-    if let Gate::Shut(why) = request {
-        return Target::Refused(why);
-    }
-    Target::Block {
-        link,
-        chunk,
-        need: layout::need(wide(n)),
+    let located = locate(a, b);
+    match located {
+        Located::Chunk { link, chunk } => {
+            let request = layout::check_request(a.len(), wide(n));
+            if let Gate::Shut(why) = request {
+                return Target::Refused(why);
+            }
+            Target::Block {
+                link,
+                chunk,
+                need: layout::need(wide(n)),
+            }
+        }
+        Located::Refused(why) => Target::Refused(why),
     }
 }

@@ -2,9 +2,9 @@
 use Prim.Native.Nat.{ℕ, _*_, _≤_}
 use mathlib.Core.List.{List}
 use lib.ListN.{length, take}
+use Rattle.requests.specs.declared.Place.{Place}
 use Rattle.lines.specs.Boards.{Board, longestReply}
 use Rattle.lines.specs.Pieces.{ending, HearsAll}
-use Rattle.lines.specs.declared.Place.{Place}
 use Rattle.lines.specs.declared.Heard.{Heard}
 
 -- a lent text has room for the replies to a piece, and to the last line

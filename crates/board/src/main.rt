@@ -1,4 +1,5 @@
-// The board's program: request lines on standard input, replies on standard output, as soon as each piece of input is answered.
+// The board's program: request lines on standard input, replies on standard output, as soon as each piece of input is
+// answered.
 use libc::STDIN_FILENO;
 use libc::STDOUT_FILENO;
 use lines::Heard;
@@ -23,7 +24,8 @@ struct Carried {
 // Hears a whole piece: the text has room to answer it.
 fn hear_whole(last: Heard, words: &mut [u32], piece: &[u8], out: &mut [u8]) -> Heard
     requires { ⌜ length (now piece) * longestReply ≤ length (now out) ⌝ }
-    ensures { λ r. ⌜ HearsAll (last .place) (boardOf (now (words .entry)) (last .lent)) (now (piece .entry)) (now (out .entry)) r (now (words .exit)) (now (out .exit)) ⌝ }
+    ensures { λ r. ⌜ HearsAll (last .place) (boardOf (now (words .entry)) (last .lent))
+        (now (piece .entry)) (now (out .entry)) r (now (words .exit)) (now (out .exit)) ⌝ }
     ensures { λ r. ⌜ r .written ≤ length (now (out .exit)) ⌝ }
 {
     lines::hear(last, words, piece, out)
@@ -32,16 +34,19 @@ fn hear_whole(last: Heard, words: &mut [u32], piece: &[u8], out: &mut [u8]) -> H
 // Hears the end of the text.
 fn hear_end(last: Heard, words: &mut [u32], out: &mut [u8]) -> Heard
     requires { ⌜ longestReply ≤ length (now out) ⌝ }
-    ensures { λ r. ⌜ HearsAll (last .place) (boardOf (now (words .entry)) (last .lent)) (ending (last .place)) (now (out .entry)) r (now (words .exit)) (now (out .exit)) ⌝ }
+    ensures { λ r. ⌜ HearsAll (last .place) (boardOf (now (words .entry)) (last .lent))
+        (ending (last .place)) (now (out .entry)) r (now (words .exit)) (now (out .exit)) ⌝ }
     ensures { λ r. ⌜ r .written ≤ length (now (out .exit)) ⌝ }
 {
     lines::close(last, words, out)
 }
 
-// Reads once into `piece`, and answers what came, or the last line where nothing came. The replies are written at the start of `out`, and then to standard output.
+// Reads once into `piece`, and answers what came, or the last line where nothing came. The replies are written at the
+// start of `out`, and then to standard output.
 fn turn(carried: Carried, words: &mut [u32], piece: &mut [u8], out: &mut [u8]) -> Carried
     requires { ⌜ Roomy (now piece) (now out) ⌝ }
-    ensures { λ r. ⌜ Turned (carried .heard .place) (boardOf (now (words .entry)) (carried .heard .lent)) (now (piece .exit)) (now (out .entry)) (r .heard) (now (words .exit)) (now (out .exit)) ⌝ }
+    ensures { λ r. ⌜ Turned (carried .heard .place) (boardOf (now (words .entry)) (carried .heard .lent))
+        (now (piece .exit)) (now (out .entry)) (r .heard) (now (words .exit)) (now (out .exit)) ⌝ }
 {
     let before = carried.heard;
     let got = libc::read(STDIN_FILENO, piece);
@@ -64,7 +69,8 @@ fn turn(carried: Carried, words: &mut [u32], piece: &mut [u8], out: &mut [u8]) -
     }
 }
 
-// Answers all input. A proved loop has to end, and nothing says that an input does: so the turns are counted, from a number that no run uses up.
+// Answers all input. A proved loop has to end, and nothing says that an input does: so the turns are counted, from a
+// number that no run uses up.
 fn answer_all(words: &mut [u32], piece: &mut [u8], out: &mut [u8])
     requires { ⌜ Roomy (now piece) (now out) ⌝ }
 {

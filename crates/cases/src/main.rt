@@ -1,18 +1,16 @@
-// Runs cases from standard input until it ends: an arena and a call on it, answered with all that came of the call, for tests to compare.
+// Runs cases from standard input until it ends: an arena and a call on it, answered with all that came of the call, for
+// tests to compare.
 // A case is the words: call, b, n, how many words the arena has, and the arena's words.
-// A reply is the words: code, four fields, how many words were handed back, those words as they were handed back, and the arena's words after the call.
-mod answers;
-mod parts;
-mod replies;
-mod words;
-
+// A reply is the words: code, four fields, how many words were handed back, those words as they were handed back, and
+// the arena's words after the call.
 use layout::wide;
 use libc::STDIN_FILENO;
 use libc::STDOUT_FILENO;
-use replies::Reply;
+use trials::replies;
+use trials::replies::Reply;
 ghost use Prim.Native.Nat.{_*_, _≤_};
 ghost use lib.ListN.{length};
-ghost use Rattle.cases.specs.Cases.{Buffers};
+ghost use Rattle.cases.specs.Buffers.{Buffers};
 
 // The most words that the arena of a case may have: some more than is lawful, for the tests to try.
 const MOST_WORDS: usize = layout::GREATEST_LENGTH + 16;
@@ -29,7 +27,7 @@ fn read_words(words: &mut [u32], bytes: &mut [u8]) -> bool
     if io::read_full(STDIN_FILENO, spelled) < count {
         return false;
     }
-    words::load(spelled, words);
+    spelling::load(spelled, words);
     true
 }
 
@@ -39,7 +37,7 @@ fn write_words(words: &[u32], bytes: &mut [u8]) -> bool
 {
     let count = 4 * words.len();
     let spelled = &mut bytes[..count];
-    words::store(words, spelled);
+    spelling::store(words, spelled);
     io::write_all(STDOUT_FILENO, spelled)
 }
 
@@ -58,7 +56,8 @@ fn write_reply(reply: Reply, part: &[u32], a: &[u32], bytes: &mut [u8]) -> bool
     write_words(a, bytes)
 }
 
-// Reads the arena of a case, makes its call and writes the reply; false where the arena is cut short or the reply cannot be written.
+// Reads the arena of a case, makes its call and writes the reply; false where the arena is cut short or the reply
+// cannot be written.
 fn run_call(call: u32, b: u32, n: u32, a: &mut [u32], part: &mut [u32], bytes: &mut [u8]) -> bool
     requires { ⌜ Buffers (now a) (now part) (now bytes) ⌝ }
 {
@@ -69,7 +68,8 @@ fn run_call(call: u32, b: u32, n: u32, a: &mut [u32], part: &mut [u32], bytes: &
     write_reply(reply, part, a, bytes)
 }
 
-// Runs one case, whose arena is read to the start of `space`; false where there is no whole case, where its arena has more words than that, or where the reply cannot be written.
+// Runs one case, whose arena is read to the start of `space`; false where there is no whole case, where its arena has
+// more words than that, or where the reply cannot be written.
 fn run_case(space: &mut [u32], part: &mut [u32], bytes: &mut [u8]) -> bool
     requires { ⌜ Buffers (now space) (now part) (now bytes) ⌝ }
 {
@@ -84,7 +84,8 @@ fn run_case(space: &mut [u32], part: &mut [u32], bytes: &mut [u8]) -> bool
     run_call(head[0], head[1], head[2], &mut space[..count], part, bytes)
 }
 
-// Runs cases until one cannot be run. A proved loop has to end, so turns are counted down from a number that no run uses up.
+// Runs cases until one cannot be run. A proved loop has to end, so turns are counted down from a number that no run
+// uses up.
 fn run_cases(space: &mut [u32], part: &mut [u32], bytes: &mut [u8])
     requires { ⌜ Buffers (now space) (now part) (now bytes) ⌝ }
 {

@@ -12,8 +12,10 @@ use Rattle.layout.proofs.Holds.{Sizes}
 use Rattle.layout.proofs.Linked.{Linked}
 use Rattle.layout.proofs.Written.{Arena}
 
--- of chunks that begin at word `c` and end the arena: the links from word `link` on, which names the first free one, lead through their free list
-linked-chain : (a : List ℕ) (link c : ℕ) (ks : List Chunk) → Linked a link c ks 0 → Sizes ks → link < c → c + total ks ≡ length a → Chain a link (freeList c ks)
+-- of chunks that begin at word `c` and end the arena: the links from word `link` on, which names the first free one,
+-- lead through their free list
+linked-chain : (a : List ℕ) (link c : ℕ) (ks : List Chunk) → Linked a link c ks 0 → Sizes ks → link < c → c + total ks ≡ length a
+    → Chain a link (freeList c ks)
 linked-chain a link c [] h z l f = h .0
 linked-chain a link c (free s ∷ ks) h z l f =
     (h .0, h .1 .0, l, omega arith, linked-chain a (c + 1) (c + s) ks (h .1 .1, h .1 .2) (z .2) (omega arith) (omega arith))

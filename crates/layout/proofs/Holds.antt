@@ -22,9 +22,9 @@ Holds a c (k ∷ ks) after =
     (getD a c 0 ≡ size k) × (getD a (c + 1) 0 ≡ second k (firstFree (c + size k) ks after)) × Holds a (c + size k) ks after
 
 -- word `i` is in no header of `ks`, which begin at word `c`
-abbrev pub Apart : ℕ → List Chunk → ℕ → Type 0
-Apart c [] i = Unit {0}
-Apart c (k ∷ ks) i = (i ≢ c) × (i ≢ c + 1) × Apart (c + size k) ks i
+abbrev pub InNoHeader : ℕ → List Chunk → ℕ → Type 0
+InNoHeader c [] i = Unit {0}
+InNoHeader c (k ∷ ks) i = (i ≢ c) × (i ≢ c + 1) × InNoHeader (c + size k) ks i
 
 -- no two free chunks in a row, where `joined` says that a free one ends where `ks` begin
 abbrev pub Spaced : Bool → List Chunk → Type 0
@@ -47,7 +47,8 @@ pub total-append : (ks ls : List Chunk) → total (ks ++ ls) ≡ total ks + tota
 total-append [] ls = omega arith
 total-append (k ∷ ks) ls = omega (arith, total-append ks ls)
 
-pub firstFree-append : (c : ℕ) (ks ls : List Chunk) (after d : ℕ) → d ≡ c + total ks → firstFree c (ks ++ ls) after ≡ firstFree c ks (firstFree d ls after)
+pub firstFree-append : (c : ℕ) (ks ls : List Chunk) (after d : ℕ) → d ≡ c + total ks
+    → firstFree c (ks ++ ls) after ≡ firstFree c ks (firstFree d ls after)
 firstFree-append c [] ls after d e = ap (λ (n : ℕ). firstFree n ls after) (omega arith)
 firstFree-append c (free s ∷ ks) ls after d e = refl
 firstFree-append c (live s ∷ ks) ls after d e = firstFree-append (c + s) ks ls after d (omega arith)
@@ -75,7 +76,8 @@ spaced-left joined (free s ∷ ks) ls h = (h .0, spaced-left true ks ls (h .1))
 spaced-left joined (live s ∷ ks) ls h = spaced-left false ks ls h
 
 -- what follows some chunks may be changed, if the change keeps the spacing whatever stands before
-pub spaced-under : (joined : Bool) (pre ks ls : List Chunk) → ((j : Bool) → Spaced j ks → Spaced j ls) → Spaced joined (pre ++ ks) → Spaced joined (pre ++ ls)
+pub spaced-under : (joined : Bool) (pre ks ls : List Chunk) → ((j : Bool) → Spaced j ks → Spaced j ls) → Spaced joined (pre ++ ks)
+    → Spaced joined (pre ++ ls)
 spaced-under joined [] ks ls f h = f joined h
 spaced-under joined (free s ∷ pre) ks ls f h = (h .0, spaced-under true pre ks ls f (h .1))
 spaced-under joined (live s ∷ pre) ks ls f h = spaced-under false pre ks ls f h
@@ -88,10 +90,6 @@ spaced-weaken [] h = tt
 spaced-weaken (free s ∷ ks) h = (refl, h .1)
 spaced-weaken (live s ∷ ks) h = h
 
-pub total-even : (ks : List Chunk) → Sizes ks → total ks % 2 ≡ 0
-total-even [] z = refl
-total-even (k ∷ ks) z = let e : total ks % 2 ≡ 0 = total-even ks (z .2) in omega arith
-
 pub firstFree-within : (c : ℕ) (ks : List Chunk) → firstFree c ks 0 ≤ c + total ks
 firstFree-within c [] = omega arith
 firstFree-within c (free s ∷ ks) = omega arith
@@ -103,20 +101,20 @@ link-unmarked c ks h = omega (arith, firstFree-within c ks)
 
 -- ---- words in no header
 
-pub apart-below : (c : ℕ) (ks : List Chunk) (i : ℕ) → i < c → Apart c ks i
-apart-below c [] i h = tt
-apart-below c (k ∷ ks) i h = (omega arith, omega arith, apart-below (c + size k) ks i (omega arith))
+pub no-header-below : (c : ℕ) (ks : List Chunk) (i : ℕ) → i < c → InNoHeader c ks i
+no-header-below c [] i h = tt
+no-header-below c (k ∷ ks) i h = (omega arith, omega arith, no-header-below (c + size k) ks i (omega arith))
 
-pub apart-above : (c : ℕ) (ks : List Chunk) (i : ℕ) → Sizes ks → c + total ks ≤ i → Apart c ks i
-apart-above c [] i z h = tt
-apart-above c (k ∷ ks) i z h = (omega arith, omega arith, apart-above (c + size k) ks i (z .2) (omega arith))
+pub no-header-above : (c : ℕ) (ks : List Chunk) (i : ℕ) → Sizes ks → c + total ks ≤ i → InNoHeader c ks i
+no-header-above c [] i z h = tt
+no-header-above c (k ∷ ks) i z h = (omega arith, omega arith, no-header-above (c + size k) ks i (z .2) (omega arith))
 
-pub apart-append : (c : ℕ) (ks ls : List Chunk) (d i : ℕ) → d ≡ c + total ks → Apart c ks i → Apart d ls i → Apart c (ks ++ ls) i
-apart-append c [] ls d i e p q = subst (λ (n : ℕ). Apart n ls i) (omega arith) q
-apart-append c (k ∷ ks) ls d i e p q = (p .0, p .1, apart-append (c + size k) ks ls d i (omega arith) (p .2) q)
+pub no-header-append : (c : ℕ) (ks ls : List Chunk) (d i : ℕ) → d ≡ c + total ks → InNoHeader c ks i → InNoHeader d ls i → InNoHeader c (ks ++ ls) i
+no-header-append c [] ls d i e p q = subst (λ (n : ℕ). InNoHeader n ls i) (omega arith) q
+no-header-append c (k ∷ ks) ls d i e p q = (p .0, p .1, no-header-append (c + size k) ks ls d i (omega arith) (p .2) q)
 
 -- a store to a word in no header keeps the headers
-pub frame : (a : List ℕ) (c : ℕ) (ks : List Chunk) (after i v : ℕ) → Apart c ks i → Holds a c ks after → Holds (set a i v) c ks after
+pub frame : (a : List ℕ) (c : ℕ) (ks : List Chunk) (after i v : ℕ) → InNoHeader c ks i → Holds a c ks after → Holds (set a i v) c ks after
 frame a c [] after i v p h = tt
 frame a c (k ∷ ks) after i v p h = (
   getD-set-other a i c v 0 (λ e. p .0 (sym e)) ∙ h .0,

@@ -8,6 +8,6 @@ pub mod Written
 pub mod Chain
 pub mod Replace
 pub mod Round
-pub mod Inside
+pub mod Payload
 pub mod Counts
 pub mod Reasons

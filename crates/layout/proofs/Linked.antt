@@ -10,7 +10,8 @@ use Rattle.layout.specs.Chunks.{Chunk, free, live, total, firstFree}
 use Rattle.layout.specs.Links.{linkAt}
 use Rattle.layout.proofs.Holds.{Sizes, Holds}
 
--- the headers of `ks`, which begin at word `c`, stand in `a`, and word `base` names the first free one of them, `after` if none is free
+-- the headers of `ks`, which begin at word `c`, stand in `a`, and word `base` names the first free one of them, `after`
+-- if none is free
 abbrev pub Linked : List ℕ → ℕ → ℕ → List Chunk → ℕ → Type 0
 Linked a base c ks after = (getD a base 0 ≡ firstFree c ks after) × Holds a c ks after
 

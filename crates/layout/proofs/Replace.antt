@@ -1,4 +1,5 @@
--- Some chunks in the middle of an arena are replaced by others: one link is stored anew, and the headers of the new chunks.
+-- Some chunks in the middle of an arena are replaced by others: one link is stored anew, and the headers of the new
+-- chunks.
 use mathlib.Core.Path.{_≡_, sym, ap, _∙_}
 use mathlib.Core.Logic.{_≢_}
 use mathlib.Core.Bool.{Bool, false}
@@ -10,18 +11,23 @@ use lib.Seq.{getD-set-other}
 use Rattle.layout.specs.Numbers.{firstChunk, listWord}
 use Rattle.layout.specs.Chunks.{Chunk, size, total, firstFree, second, header, write, written}
 use Rattle.layout.specs.Links.{linkAt}
-use Rattle.layout.proofs.Holds.{Sizes, Holds, Spaced, Lawful, apart-above, holds-split, firstFree-append, sizes-split, sizes-append, total-append, spaced-under}
+use Rattle.layout.proofs.Holds.{Sizes, Holds, Spaced, Lawful, no-header-above, holds-split, firstFree-append, sizes-split, sizes-append}
+use Rattle.layout.proofs.Holds.{total-append, spaced-under}
 use Rattle.layout.proofs.Linked.{Linked, linkAt-below, linkAt-ne, relink}
 use Rattle.layout.proofs.Chain.{chain-behind, chain-first}
-use Rattle.layout.proofs.Written.{Arena, set-same, write-fixed, write-apart, header-same, header-set-second, header-set-other, write-set, Head, head-low, linkAt-in}
+use Rattle.layout.proofs.Written.{Arena, set-same, write-fixed, write-no-header, header-same, header-set-second, header-set-other, write-set}
+use Rattle.layout.proofs.Written.{Head}
+use Rattle.layout.proofs.Written.{head-low, linkAt-in}
 
 -- headers are kept where no word from them on changes
-holds-from : (a b : List ℕ) (c : ℕ) (ks : List Chunk) (after : ℕ) → ((i : ℕ) → c ≤ i → getD b i 0 ≡ getD a i 0) → Holds a c ks after → Holds b c ks after
+holds-from : (a b : List ℕ) (c : ℕ) (ks : List Chunk) (after : ℕ) → ((i : ℕ) → c ≤ i → getD b i 0 ≡ getD a i 0) → Holds a c ks after
+    → Holds b c ks after
 holds-from a b c [] after f h = tt
 holds-from a b c (k ∷ ks) after f h =
     (f c (omega arith) ∙ h .0, f (c + 1) (omega arith) ∙ h .1, holds-from a b (c + size k) ks after (λ i l. f i (omega arith)) (h .2))
 
-pub write-append : (c : ℕ) (ks ls : List Chunk) (after d : ℕ) (a : List ℕ) → d ≡ c + total ks → write c (ks ++ ls) after a ≡ write d ls after (write c ks (firstFree d ls after) a)
+pub write-append : (c : ℕ) (ks ls : List Chunk) (after d : ℕ) (a : List ℕ) → d ≡ c + total ks
+    → write c (ks ++ ls) after a ≡ write d ls after (write c ks (firstFree d ls after) a)
 unfolding write
 write-append c [] ls after d a e = ap (λ (n : ℕ). write n ls after a) (omega arith)
 write-append c (k ∷ ks) ls after d a e =
@@ -76,7 +82,9 @@ module _ (a : List ℕ) (pre old new post : List Chunk) (c e : ℕ) (r : Arena a
       let h = holds-split a c old post 0 e to (holds-split a firstChunk pre (old ++ post) 0 c at (r .linked .1) .1) in
       let link : ℕ = linkAt listWord firstChunk pre in
       let low : link < firstChunk + total pre = linkAt-below listWord firstChunk pre (before .0) (omega arith) in
-      holds-from a _ e post 0 (λ i l. write-apart c new _ _ i (apart-above c new i z (omega arith)) ∙ getD-set-other a link i v 0 (omega arith)) (h .1)
+      holds-from a _ e post 0 (λ i l. write-no-header c new _ _ i (no-header-above c new i z (omega arith)) ∙ getD-set-other a link i v 0
+      (omega arith))
+      (h .1)
 
   pub replaced : written (pre ++ (new ++ post)) a
       ≡ write c new (firstFree e post 0) (set a (linkAt listWord firstChunk pre) (firstFree c new (firstFree e post 0)))
@@ -86,7 +94,14 @@ module _ (a : List ℕ) (pre old new post : List Chunk) (c e : ℕ) (r : Arena a
       let to′ : e ≡ c + total new = omega arith in
       let y : ℕ = firstFree c new (firstFree e post 0) in
       let f = front-linked a pre y _ (before .0) (omega arith) (r .words) (before .1) in
-      rw (write-append firstChunk pre (new ++ post) 0 c _ at, firstFree-append firstChunk pre (new ++ post) 0 c at, firstFree-append c new post 0 e to′, f, write-append c new post 0 e _ to′)
+      rw (
+        write-append firstChunk pre (new ++ post) 0 c _ at,
+        firstFree-append firstChunk pre
+            (new ++ post) 0 c at,
+        firstFree-append c new post 0 e to′,
+        f,
+        write-append c new post 0 e _ to′,
+      )
       (write-fixed e post 0 _ (behind y))
 
   -- the chunks before need no store where they name what they named

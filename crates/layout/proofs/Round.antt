@@ -1,4 +1,5 @@
--- The walk finds the chunks whose headers stand in the words, and no others: what is written is found, and what is found is written.
+-- The walk finds the chunks whose headers stand in the words, and no others: what is written is found, and what is
+-- found is written.
 use mathlib.Core.Path.{_≡_, refl, sym, ap, _∙_}
 use mathlib.Core.Bool.{Bool, true, false, cond, _&&_}
 use mathlib.Core.List.{List, [], _∷_}
@@ -9,13 +10,15 @@ use lib.ListN.{length, getD}
 use borrow.Author.Tests.{eqb-true, eq-eqb, ne-eqb, le-leb}
 use Rattle.layout.specs.Numbers.{firstChunk, listWord, leastSize, leastLength, greatestLength, liveMark, lawful}
 use Rattle.layout.specs.Chunks.{Chunk, free, live, total, firstFree, written}
-use Rattle.layout.specs.Walk.{Met, end, chunk, nothing, Walked, broken, whole, withChunk, isWhole, chunksIn, sizeFits, meet, walkFrom, walked, sound, chunksOf}
+use Rattle.layout.specs.Walk.{Met, end, chunk, nothing, Walked, broken, whole, withChunk, isWhole, chunksIn, sizeFits, meet, walkFrom, walked}
+use Rattle.layout.specs.Walk.{sound, chunksOf}
 use Rattle.layout.proofs.Bools.{both, lawful-bounds}
 use Rattle.layout.proofs.Walking.{from-end, from-nothing, from-chunk, fits-bounds}
 use Rattle.layout.proofs.Holds.{Sizes, Holds, Spaced, Lawful, link-unmarked}
 use Rattle.layout.proofs.Written.{Arena, written-arena, written-fixed}
 
--- the words `a` from `c` on are those of `ks`, where the links want the next free chunk at `want`, and `joined` says that a free chunk ends at `c`
+-- the words `a` from `c` on are those of `ks`, where the links want the next free chunk at `want`, and `joined` says
+-- that a free chunk ends at `c`
 pub record Laid (a : List ℕ) (c want : ℕ) (joined : Bool) (ks : List Chunk) : Type 0 where
   pub names : want ≡ firstFree c ks 0
   pub heads : Holds a c ks 0
@@ -44,10 +47,14 @@ data Told (a : List ℕ) (c want : ℕ) (joined : Bool) : Met → Type 0 where
 told : (a : List ℕ) (c want : ℕ) (joined : Bool) → Told a c want joined (meet a c want joined)
 unfolding meet
 told a c want joined =
-    go (eqb c (length a)) (eqb want 0) (sizeFits (length a) c (getD a c 0)) (eqb (getD a (c + 1) 0) liveMark) (eqb want c) joined refl refl refl refl refl refl
+    go (eqb c (length a)) (eqb want 0) (sizeFits (length a) c (getD a c 0)) (eqb (getD a (c + 1) 0) liveMark)
+    (eqb want c) joined refl refl refl refl refl refl
   where
-    go : (b₁ b₂ b₃ b₄ b₅ j : Bool) → eqb c (length a) ≡ b₁ → eqb want 0 ≡ b₂ → sizeFits (length a) c (getD a c 0) ≡ b₃ → eqb (getD a (c + 1) 0) liveMark ≡ b₄ → eqb want c ≡ b₅ → joined ≡ j
-        → Told a c want joined (cond b₁ (cond b₂ end nothing) (cond b₃ (cond b₄ (chunk (live (getD a c 0)) want false) (cond j nothing (cond b₅ (chunk (free (getD a c 0)) (getD a (c + 1) 0) true) nothing))) nothing))
+    go : (b₁ b₂ b₃ b₄ b₅ j : Bool) → eqb c (length a) ≡ b₁ → eqb want 0 ≡ b₂ → sizeFits (length a) c (getD a c 0) ≡ b₃
+        → eqb (getD a (c + 1) 0) liveMark ≡ b₄ → eqb want c ≡ b₅ → joined ≡ j
+        → Told a c want joined (cond b₁ (cond b₂ end nothing)
+        (cond b₃ (cond b₄ (chunk (live (getD a c 0)) want false)
+        (cond j nothing (cond b₅ (chunk (free (getD a c 0)) (getD a (c + 1) 0) true) nothing))) nothing))
     go true true b₃ b₄ b₅ j e₁ e₂ e₃ e₄ e₅ e₆ = at-end (eqb-true _ _ e₁) (eqb-true _ _ e₂)
     go true false b₃ b₄ b₅ j e₁ e₂ e₃ e₄ e₅ e₆ = at-none
     go false b₂ false b₄ b₅ j e₁ e₂ e₃ e₄ e₅ e₆ = at-none
@@ -69,7 +76,8 @@ laid [] a c want joined e = go (told a c want joined) refl
   where
     go : {m : Met} → Told a c want joined m → meet a c want joined ≡ m → Laid a c want joined []
     go (at-end p q) m = record { names = q; heads = tt; sizes = tt; fills = omega arith; spaced = tt }
-    go (at-live f l) m = absurd (with-none (live (getD a c 0)) (walkFrom a (c + getD a c 0) want false) (sym (from-chunk a c want joined _ _ _ m) ∙ e))
+    go (at-live f l) m = absurd (with-none (live (getD a c 0)) (walkFrom a (c + getD a c 0) want false)
+        (sym (from-chunk a c want joined _ _ _ m) ∙ e))
     go (at-free f j l) m =
         absurd (with-none (free (getD a c 0)) (walkFrom a (c + getD a c 0) (getD a (c + 1) 0) true) (sym (from-chunk a c want joined _ _ _ m) ∙ e))
     go at-none m = absurd (let z : _≡_ {A = ℕ} 0 1 = cc (from-nothing a c want joined m, e) in omega arith)
@@ -84,7 +92,8 @@ laid (k ∷ ks) a c want joined e = go (told a c want joined) refl (laid ks a)
         rw (← u .0)
         (record { names = t .names; heads = (refl, l, t .heads); sizes = (f .0, f .1, t .sizes); fills = omega arith; spaced = t .spaced })
     go (at-free f j l) m r =
-        let u = with-whole k (free (getD a c 0)) (walkFrom a (c + getD a c 0) (getD a (c + 1) 0) true) ks (sym (from-chunk a c want joined _ _ _ m) ∙ e) in
+        let u = with-whole k (free (getD a c 0)) (walkFrom a (c + getD a c 0) (getD a (c + 1) 0) true) ks
+        (sym (from-chunk a c want joined _ _ _ m) ∙ e) in
         let t = r (c + getD a c 0) (getD a (c + 1) 0) true (u .1) in
         rw (← u .0)
         (record { names = l; heads = (refl, t .names, t .heads); sizes = (f .0, f .1, t .sizes); fills = omega arith; spaced = (j, t .spaced) })
@@ -106,7 +115,8 @@ module _ (a : List ℕ) (c want : ℕ) (joined : Bool) where
       let z : (s % 2 ≡ 0) × (leastSize ≤ s) × Sizes ks = r .sizes in
       rw (ne-eqb c (length a) (omega arith), r .heads .0, true-fits (length a) c s (z .0, z .1, omega arith), r .heads .1)
 
-  meet-free : (s : ℕ) (ks : List Chunk) → Laid a c want joined (free s ∷ ks) → length a ≤ greatestLength → meet a c want joined ≡ chunk (free s) (firstFree (c + s) ks 0) true
+  meet-free : (s : ℕ) (ks : List Chunk) → Laid a c want joined (free s ∷ ks) → length a ≤ greatestLength
+      → meet a c want joined ≡ chunk (free s) (firstFree (c + s) ks 0) true
   unfolding meet
   meet-free s ks r n =
       let z : (s % 2 ≡ 0) × (leastSize ≤ s) × Sizes ks = r .sizes in
@@ -127,7 +137,8 @@ module _ (a : List ℕ) (c want : ℕ) (joined : Bool) where
   past-free : (s : ℕ) (ks : List Chunk) → Laid a c want joined (free s ∷ ks) → Laid a (c + s) (firstFree (c + s) ks 0) true ks
   past-free s ks r = record { names = refl; heads = r .heads .2; sizes = r .sizes .2; fills = omega arith; spaced = r .spaced .1 }
 
-pub walks : (ks : List Chunk) (a : List ℕ) (c want : ℕ) (joined : Bool) → Laid a c want joined ks → length a ≤ greatestLength → walkFrom a c want joined ≡ whole ks
+pub walks : (ks : List Chunk) (a : List ℕ) (c want : ℕ) (joined : Bool) → Laid a c want joined ks → length a ≤ greatestLength
+    → walkFrom a c want joined ≡ whole ks
 walks [] a c want joined r n = from-end a c want joined (meet-end a c want joined r)
 walks (live s ∷ ks) a c want joined r n =
     from-chunk a c want joined _ _ _ (meet-live a c want joined s ks r)
@@ -167,7 +178,8 @@ sound-arena a e =
     let q = both (eqb (getD a 0 0) (length a)) (isWhole (walked a)) (p .1) in
     go (walked a) refl (lawful-bounds (length a) (p .0)) (eqb-true (getD a 0 0) (length a) (q .0)) (q .1)
   where
-    go : (w : Walked) → walked a ≡ w → (length a % 2 ≡ 0) × (leastLength ≤ length a) × (length a ≤ greatestLength) → getD a 0 0 ≡ length a → isWhole w ≡ true
+    go : (w : Walked) → walked a ≡ w → (length a % 2 ≡ 0) × (leastLength ≤ length a) × (length a ≤ greatestLength) → getD a 0 0 ≡ length a
+        → isWhole w ≡ true
         → (ks : List Chunk) × (walked a ≡ whole ks) × Arena a ks
     go broken p l h t = absurd (let z : _≡_ {A = ℕ} 0 1 = cc in omega arith)
     go (whole ks) p l h t =

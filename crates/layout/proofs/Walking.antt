@@ -16,10 +16,13 @@ use Rattle.layout.proofs.Bools.{both}
 -- a size that fits
 pub fits-bounds : (n c x : ℕ) → sizeFits n c x ≡ true → (leastSize ≤ x) × (x ≤ n - c)
 fits-bounds n c x e =
-    let r = both (leb leastSize x) (leb x (n - c)) (both (eqb (x % 2) 0) (leb leastSize x && leb x (n - c)) e .1) in (leb-true leastSize x (r .0), leb-true x (n - c) (r .1))
+    let r = both (leb leastSize x) (leb x (n - c)) (both (eqb (x % 2) 0) (leb leastSize x && leb x (n - c)) e .1) in
+    (leb-true leastSize x (r .0), leb-true x (n - c) (r .1))
 
 -- a chunk that the walk meets has at least 4 words, and ends within the arena
-met-parts : (b₁ b₂ b₃ b₄ b₅ j : Bool) (s v w w′ : ℕ) (j′ : Bool) (k : Chunk) → cond b₁ (cond b₂ end nothing) (cond b₃ (cond b₄ (chunk (live s) w false) (cond j nothing (cond b₅ (chunk (free s) v true) nothing))) nothing) ≡ chunk k w′ j′ → (b₃ ≡ true) × (size k ≡ s)
+met-parts : (b₁ b₂ b₃ b₄ b₅ j : Bool) (s v w w′ : ℕ) (j′ : Bool) (k : Chunk)
+    → cond b₁ (cond b₂ end nothing) (cond b₃ (cond b₄ (chunk (live s) w false) (cond j nothing (cond b₅ (chunk (free s) v true) nothing))) nothing)
+    ≡ chunk k w′ j′ → (b₃ ≡ true) × (size k ≡ s)
 met-parts true true b₃ b₄ b₅ j s v w w′ j′ k e = (cc, cc)
 met-parts true false b₃ b₄ b₅ j s v w w′ j′ k e = (cc, cc)
 met-parts false b₂ false b₄ b₅ j s v w w′ j′ k e = (cc, cc)
@@ -28,10 +31,12 @@ met-parts false b₂ true false b₅ true s v w w′ j′ k e = (cc, cc)
 met-parts false b₂ true false true false s v w w′ j′ k e = (refl, cc)
 met-parts false b₂ true false false false s v w w′ j′ k e = (cc, cc)
 
-met-bounds : (a : List ℕ) (c w : ℕ) (j : Bool) (k : Chunk) (w′ : ℕ) (j′ : Bool) → meet a c w j ≡ chunk k w′ j′ → (leastSize ≤ size k) × (size k ≤ length a - c)
+met-bounds : (a : List ℕ) (c w : ℕ) (j : Bool) (k : Chunk) (w′ : ℕ) (j′ : Bool) → meet a c w j ≡ chunk k w′ j′
+    → (leastSize ≤ size k) × (size k ≤ length a - c)
 unfolding meet
 met-bounds a c w j k w′ j′ e =
-    let p = met-parts (eqb c (length a)) (eqb w 0) (sizeFits (length a) c (getD a c 0)) (eqb (getD a (c + 1) 0) liveMark) (eqb w c) j (getD a c 0) (getD a (c + 1) 0) w w′ j′ k e in
+    let p = met-parts (eqb c (length a)) (eqb w 0) (sizeFits (length a) c (getD a c 0)) (eqb (getD a (c + 1) 0) liveMark) (eqb w c) j (getD a c 0)
+    (getD a (c + 1) 0) w w′ j′ k e in
     let b = fits-bounds (length a) c (getD a c 0) (p .0) in
     (omega (arith, p .1, b .0), omega (arith, p .1, b .1))
 
@@ -53,7 +58,9 @@ fuel (suc f) zero a c w j hf hg = go (meet a c w j) refl
     go (chunk k w′ j′) e = let b = met-bounds a c w j k w′ j′ e in let z : ⊥ = omega arith in absurd z
 fuel (suc f) (suc g) a c w j hf hg = go (meet a c w j) refl (λ s w′ j′. fuel f g a (c + s) w′ j′)
   where
-    go : (m : Met) → meet a c w j ≡ m → ((s w′ : ℕ) (j′ : Bool) → length a - (c + s) ≤ f → length a - (c + s) ≤ g → walk f a (c + s) w′ j′ ≡ walk g a (c + s) w′ j′) → walk (suc f) a c w j ≡ walk (suc g) a c w j
+    go : (m : Met) → meet a c w j ≡ m
+        → ((s w′ : ℕ) (j′ : Bool) → length a - (c + s) ≤ f → length a - (c + s) ≤ g → walk f a (c + s) w′ j′ ≡ walk g a (c + s) w′ j′)
+        → walk (suc f) a c w j ≡ walk (suc g) a c w j
     go end e r = rw (e, walk)
     go nothing e r = rw (e, walk)
     go (chunk k w′ j′) e r = let b = met-bounds a c w j k w′ j′ e in rw (e, walk) (ap (withChunk k) (r (size k) w′ j′ (omega arith) (omega arith)))
@@ -75,7 +82,8 @@ from-nothing a c w j e = go (length a - c)
     go zero = rw (e, walk)
     go (suc f) = rw (e, walk)
 
-pub from-chunk : (a : List ℕ) (c w : ℕ) (j : Bool) (k : Chunk) (w′ : ℕ) (j′ : Bool) → meet a c w j ≡ chunk k w′ j′ → walkFrom a c w j ≡ withChunk k (walkFrom a (c + size k) w′ j′)
+pub from-chunk : (a : List ℕ) (c w : ℕ) (j : Bool) (k : Chunk) (w′ : ℕ) (j′ : Bool) → meet a c w j ≡ chunk k w′ j′
+    → walkFrom a c w j ≡ withChunk k (walkFrom a (c + size k) w′ j′)
 unfolding walk walkFrom
 from-chunk a c w j k w′ j′ e = go (length a - c) refl
   where
@@ -127,7 +135,8 @@ module _ (a : List ℕ) (c s w : ℕ) (e : s ≡ sizeAt a c) (h : s ≡ 0 → �
       (omega arith, omega arith)
 
   -- at a size that fits, only the second word and the links decide
-  met-sized : (j : Bool) → meet a c w j ≡ cond (eqb (getD a (c + 1) 0) liveMark) (chunk (live s) w false) (cond j nothing (cond (eqb w c) (chunk (free s) (getD a (c + 1) 0) true) nothing))
+  met-sized : (j : Bool) → meet a c w j ≡ cond (eqb (getD a (c + 1) 0) liveMark) (chunk (live s) w false)
+      (cond j nothing (cond (eqb w c) (chunk (free s) (getD a (c + 1) 0) true) nothing))
   unfolding meet sizeAt
   met-sized j =
       let p = a-fit (length a) c (getD a c 0) s e h in

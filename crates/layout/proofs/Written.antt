@@ -9,7 +9,7 @@ use lib.Seq.{getD-set-same, getD-set-other, set-getD, set-set, set-comm}
 use Rattle.layout.specs.Numbers.{firstChunk, listWord}
 use Rattle.layout.specs.Chunks.{Chunk, free, live, size, total, header, write, written}
 use Rattle.layout.specs.Links.{linkAt}
-use Rattle.layout.proofs.Holds.{Sizes, Holds, Apart, Lawful, apart-below}
+use Rattle.layout.proofs.Holds.{Sizes, Holds, InNoHeader, Lawful, no-header-below}
 use Rattle.layout.proofs.Linked.{Linked}
 
 -- a word stored where it stands already changes nothing
@@ -65,14 +65,14 @@ length-written ks a = length-write firstChunk ks 0 _ ∙ length-header _ _ _ a
 
 -- ---- a word in no header is kept
 
-pub write-apart : (c : ℕ) (ks : List Chunk) (after : ℕ) (a : List ℕ) (i : ℕ) → Apart c ks i → getD (write c ks after a) i 0 ≡ getD a i 0
+pub write-no-header : (c : ℕ) (ks : List Chunk) (after : ℕ) (a : List ℕ) (i : ℕ) → InNoHeader c ks i → getD (write c ks after a) i 0 ≡ getD a i 0
 unfolding write
-write-apart c [] after a i p = refl
-write-apart c (k ∷ ks) after a i p = write-apart (c + size k) ks after _ i (p .2) ∙ header-other _ _ _ a i (p .0) (p .1)
+write-no-header c [] after a i p = refl
+write-no-header c (k ∷ ks) after a i p = write-no-header (c + size k) ks after _ i (p .2) ∙ header-other _ _ _ a i (p .0) (p .1)
 
-pub written-apart : (ks : List Chunk) (a : List ℕ) (i : ℕ) → firstChunk ≤ i → Apart firstChunk ks i → getD (written ks a) i 0 ≡ getD a i 0
+pub written-no-header : (ks : List Chunk) (a : List ℕ) (i : ℕ) → firstChunk ≤ i → InNoHeader firstChunk ks i → getD (written ks a) i 0 ≡ getD a i 0
 unfolding written
-written-apart ks a i h p = write-apart firstChunk ks 0 _ i p ∙ header-other 0 _ _ a i (omega arith) (omega arith)
+written-no-header ks a i h p = write-no-header firstChunk ks 0 _ i p ∙ header-other 0 _ _ a i (omega arith) (omega arith)
 
 -- ---- what is written stands there
 
@@ -80,8 +80,8 @@ pub write-holds : (c : ℕ) (ks : List Chunk) (after : ℕ) (a : List ℕ) → S
 unfolding write
 write-holds c [] after a z f = tt
 write-holds c (k ∷ ks) after a z f = (
-  write-apart (c + size k) ks after _ c (apart-below (c + size k) ks c (omega arith)) ∙ header-first c _ _ a (omega arith),
-  write-apart (c + size k) ks after _ (c + 1) (apart-below (c + size k) ks (c + 1) (omega arith)) ∙ header-second c _ _ a (omega arith),
+  write-no-header (c + size k) ks after _ c (no-header-below (c + size k) ks c (omega arith)) ∙ header-first c _ _ a (omega arith),
+  write-no-header (c + size k) ks after _ (c + 1) (no-header-below (c + size k) ks (c + 1) (omega arith)) ∙ header-second c _ _ a (omega arith),
   write-holds (c + size k) ks after _ (z .2) (simp length-header (omega arith)),
 )
 
@@ -94,9 +94,10 @@ pub record Arena (a : List ℕ) (ks : List Chunk) : Type 0 where
 pub written-arena : (ks : List Chunk) (a : List ℕ) → Lawful (length a) ks → Arena (written ks a) ks
 unfolding written
 written-arena ks a r = record {
-  words = write-apart firstChunk ks 0 _ 0 (apart-below firstChunk ks 0 (omega arith)) ∙ header-first 0 _ _ a (omega arith) ∙ sym (length-written ks a);
+  words = write-no-header firstChunk ks 0 _ 0 (no-header-below firstChunk ks 0 (omega arith)) ∙ header-first 0 _ _ a (omega arith)
+      ∙ sym (length-written ks a);
   linked = (
-    write-apart firstChunk ks 0 _ listWord (apart-below firstChunk ks listWord (omega arith)) ∙ header-second 0 _ _ a (omega arith),
+    write-no-header firstChunk ks 0 _ listWord (no-header-below firstChunk ks listWord (omega arith)) ∙ header-second 0 _ _ a (omega arith),
     write-holds firstChunk ks 0 _ (r .sizes) (simp length-header (omega arith)),
   );
   law = rw (length-written ks a) r;
@@ -126,7 +127,8 @@ head-low at-size = omega arith
 head-low at-second = omega arith
 head-low (later h) = omega (arith, head-low h)
 
-pub write-set : {c : ℕ} {ks : List Chunk} {i : ℕ} (after : ℕ) (a : List ℕ) (v : ℕ) → Sizes ks → Head c ks i → write c ks after (set a i v) ≡ write c ks after a
+pub write-set : {c : ℕ} {ks : List Chunk} {i : ℕ} (after : ℕ) (a : List ℕ) (v : ℕ) → Sizes ks → Head c ks i
+    → write c ks after (set a i v) ≡ write c ks after a
 unfolding write
 write-set after a v z (at-size {c} {k} {ks}) = ap (write (c + size k) ks after) (header-set-first c _ _ a v)
 write-set after a v z (at-second {c} {k} {ks}) = ap (write (c + size k) ks after) (header-set-second c _ _ a v)

@@ -7,7 +7,8 @@ use lib.Dec.{leb, eqb}
 use Rattle.layout.specs.Numbers.{firstChunk, listWord, leastSize, liveMark, lawful}
 use Rattle.layout.specs.Chunks.{Chunk, free, live, size}
 
--- what the walk meets at a place: the end; a chunk, with the start of the next free chunk that is now wanted, and whether this one is free; or words that are neither
+-- what the walk meets at a place: the end; a chunk, with the start of the next free chunk that is now wanted, and
+-- whether this one is free; or words that are neither
 pub data Met : Type 0 where
   end : Met
   chunk : Chunk → ℕ → Bool → Met
@@ -34,7 +35,8 @@ chunksIn (whole ks) = ks
 abbrev pub sizeFits : ℕ → ℕ → ℕ → Bool
 sizeFits n c s = eqb (s % 2) 0 && (leb leastSize s && leb s (n - c))
 
--- what stands at word `c`; `want` is where the last link says that the next free chunk starts (0: there is none), `afterFree` whether a free chunk ends at `c`
+-- what stands at word `c`; `want` is where the last link says that the next free chunk starts (0: there is none),
+-- `afterFree` whether a free chunk ends at `c`
 unfoldable pub meet : List ℕ → ℕ → ℕ → Bool → Met
 meet a c want afterFree =
     cond (eqb c (length a)) (cond (eqb want 0) end nothing)

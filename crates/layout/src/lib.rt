@@ -118,7 +118,8 @@ fn size_at(a: &[u32], c: usize) -> usize
     }
 }
 
-// The check walk from word `c`, where a live chunk or the control words end; `want` is where the last link says that the next free chunk starts (0: there is none).
+// The check walk from word `c`, where a live chunk or the control words end; `want` is where the last link says that
+// the next free chunk starts (0: there is none).
 fn after_live(a: &[u32], c: usize, want: usize) -> bool
     requires { ⌜ c ≤ length (now a) ⌝ }
     ensures { λ r. ⌜ r ≡ isWhole (walkFrom (now (a .entry)) c want false) ⌝ }

@@ -10,7 +10,8 @@ use Rattle.layout.specs.Chunks.{Chunk, live, total}
 use Rattle.layout.specs.Walk.{sound, chunksOf}
 use Rattle.layout.proofs.Holds.{Lawful}
 use Rattle.layout.proofs.Round.{sound-chunks}
-use Rattle.arena.proofs.Blocks.{BlockAt, NoBlock}
+use Rattle.rules.specs.Stands.{Stands, NoBlock}
+use Rattle.rules.proofs.Searches.{BlockAt}
 use Rattle.ledger.specs.Ledger.{Entry, Ledger, Listed, Unlisted}
 use Rattle.ledger.proofs.Entries.{Laid, listed-at, listed-split}
 use Rattle.ledger.proofs.Blocks.{entryAt, blocksFrom, blocksOf, blocks-append, blocks-laid, Chunked, chunked}
@@ -21,7 +22,8 @@ pub record Agrees (n : ℕ) (a : List ℕ) (ledger : Ledger) : Type 0 where
   pub long : length a ≡ n
   pub lists : ledger ≡ blocksOf a
 
-pub chunked-block : {a : List ℕ} {above : Ledger} {e : Entry} (k : Chunked firstChunk (chunksOf a) e above) → BlockAt a (e .block) (k .pre) (k .s) (k .post)
+pub chunked-block : {ks : List Chunk} {above : Ledger} {e : Entry} (k : Chunked firstChunk ks e above)
+    → Stands ks (k .pre) (live (k .s)) (k .post) (e .block)
 chunked-block k = record { same = k .same; number-is = sym (ap (λ (f : Entry). f .block) (k .is)) }
 
 module _ (n : ℕ) (a : List ℕ) (ledger : Ledger) (g : Agrees n a ledger) where
@@ -43,14 +45,17 @@ module _ (n : ℕ) (a : List ℕ) (ledger : Ledger) (g : Agrees n a ledger) wher
 
   -- ---- a block of the arena is an entry of the ledger
 
-  pub block-listed : (b : ℕ) (pre : List Chunk) (s : ℕ) (post : List Chunk) → BlockAt a b pre s post → Listed ledger (record { block = b; granted = s - headerWords })
+  pub block-listed : (b : ℕ) (pre : List Chunk) (s : ℕ) (post : List Chunk) → BlockAt a b pre s post
+      → Listed ledger (record { block = b; granted = s - headerWords })
   block-listed b pre s post is =
       let q = g .lists ∙ ap (blocksFrom firstChunk) (is .same) ∙ blocks-append firstChunk pre (live s ∷ post) (firstChunk + total pre) refl in
-      rw (← is .number-is, q) (listed-at (blocksFrom firstChunk pre) (entryAt (firstChunk + total pre) s) (blocksFrom (firstChunk + total pre + s) post))
+      rw (← is .number-is, q) (listed-at (blocksFrom firstChunk pre) (entryAt (firstChunk + total pre) s)
+      (blocksFrom (firstChunk + total pre + s) post))
 
   -- a number that no entry has is no block's, and the other way round
   pub unlisted-block : (b : ℕ) → NoBlock a b ↔ Unlisted ledger b
   unlisted-block b = (
-    λ none e l q. let (above, k) = listed-chunked e l in none (k .pre) (k .s) (k .post) (record { same = k .same; number-is = chunked-block k .number-is ∙ q }),
-    λ un pre s post is. un (record { block = b; granted = s - headerWords }) (block-listed b pre s post is) refl,
+    λ none e l q. let (above, k) = listed-chunked e l in
+        none (k .pre, k .s, k .post, record { same = k .same; number-is = chunked-block k .number-is ∙ q }),
+    λ un (pre, s, post, is). un (record { block = b; granted = s - headerWords }) (block-listed b pre s post is) refl,
   )

@@ -8,7 +8,7 @@ use Rattle.layout.specs.Numbers.{firstChunk, headerWords}
 use Rattle.layout.specs.Chunks.{Chunk, free, live, size, total}
 use Rattle.layout.specs.Walk.{chunksOf}
 use Rattle.layout.proofs.Holds.{Sizes}
-use Rattle.arena.specs.Rules.{join, joined, freeWords, liveBlocks}
+use Rattle.rules.specs.Rules.{join, joined, freeWords, liveBlocks}
 use Rattle.ledger.specs.Ledger.{Entry, Ledger, heldWords}
 use Rattle.ledger.proofs.Entries.{Laid, laid-weaken}
 
@@ -59,7 +59,11 @@ blocks-joined c (live s ∷ ks) = blocks-join c (live s) (joined ks) ∙ ap (_�
 pub blocks-laid : (c : ℕ) (ks : List Chunk) (d : ℕ) → d ≡ c + total ks → Sizes ks → Laid c d (blocksFrom c ks)
 blocks-laid c [] d e z = omega arith
 blocks-laid c (free s ∷ ks) d e z = laid-weaken c (c + s) d (blocksFrom (c + s) ks) (omega arith) (blocks-laid (c + s) ks d (omega arith) (z .2))
-blocks-laid c (live s ∷ ks) d e z = (omega arith, laid-weaken (c + headerWords + (s - headerWords)) (c + s) d (blocksFrom (c + s) ks) (omega (arith, z .1)) (blocks-laid (c + s) ks d (omega arith) (z .2)))
+blocks-laid c (live s ∷ ks) d e z = (
+  omega arith,
+  laid-weaken (c + headerWords + (s - headerWords)) (c + s) d (blocksFrom (c + s) ks) (omega (arith, z .1))
+      (blocks-laid (c + s) ks d (omega arith) (z .2)),
+)
 
 -- ---- what they add up to, and how many there are
 
@@ -75,7 +79,8 @@ blocks-count c (live s ∷ ks) = omega (arith, blocks-count (c + s) ks)
 
 -- ---- an entry among them is a live chunk
 
--- entry `e` is that of the live chunk of `s` words between `pre` and `post`, which begin at word `c`; `above` are the blocks of `post`
+-- entry `e` is that of the live chunk of `s` words between `pre` and `post`, which begin at word `c`; `above` are the
+-- blocks of `post`
 pub record Chunked (c : ℕ) (ks : List Chunk) (e : Entry) (above : Ledger) : Type 0 where
   pub pre : List Chunk
   pub s : ℕ

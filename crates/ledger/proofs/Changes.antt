@@ -1,4 +1,5 @@
--- A list of chunks in which a middle is replaced, and what the ledger of its blocks becomes: a block enters, leaves, or is replaced.
+-- A list of chunks in which a middle is replaced, and what the ledger of its blocks becomes: a block enters, leaves, or
+-- is replaced.
 use mathlib.Core.Path.{_≡_, refl, ap}
 use mathlib.Core.Bool.{Bool, true, false, cond}
 use mathlib.Core.List.{List, [], _∷_, _++_}
@@ -8,8 +9,8 @@ use lib.Dec.{leb}
 use Rattle.layout.specs.Numbers.{firstChunk, headerWords}
 use Rattle.layout.specs.Chunks.{Chunk, free, live, total}
 use Rattle.layout.proofs.Holds.{Sizes}
-use Rattle.arena.specs.Rules.{splits, taken, cut, trim}
-use Rattle.arena.proofs.Room.{roomTail}
+use Rattle.rules.specs.Rules.{splits, taken, cut, trim}
+use Rattle.rules.proofs.Rooms.{roomTail}
 use Rattle.ledger.specs.Ledger.{Entry, enter, strike}
 use Rattle.ledger.proofs.Blocks.{entryAt, blocksFrom, blocks-around, blocks-laid}
 use Rattle.ledger.proofs.Entries.{Laid, enter-at, strike-at}
@@ -19,7 +20,8 @@ use Rattle.ledger.proofs.Entries.{Laid, enter-at, strike-at}
 pub cut-blocks : (need s d : ℕ) → blocksFrom d (cut need s) ≡ entryAt (d + (s - taken need s)) (taken need s) ∷ []
 cut-blocks need s d = go (splits need s)
   where
-    go : (split : Bool) → blocksFrom d (cond split (free (s - need) ∷ live need ∷ []) (live s ∷ [])) ≡ entryAt (d + (s - cond split need s)) (cond split need s) ∷ []
+    go : (split : Bool) → blocksFrom d (cond split (free (s - need) ∷ live need ∷ []) (live s ∷ [])) ≡ entryAt (d + (s - cond split need s))
+        (cond split need s) ∷ []
     go true = refl
     go false = ap (λ (c : ℕ). entryAt c s ∷ []) (omega arith)
 

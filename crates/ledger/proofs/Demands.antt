@@ -1,16 +1,17 @@
 -- Demand 3 of our calls, over every run.
 use mathlib.Core.Path.{sym, _∙_}
 use mathlib.Core.Bool.{true≢false}
-use Rattle.arena.proofs.Reasons.{start-done}
+use Rattle.rules.proofs.Calls.{start-behaves}
 use Rattle.ledger.specs.Events.{alloc, resize, relocate, realloc, ours}
-use Rattle.ledger.specs.Demands.{Starts, Lengths, Apart, Inside, Keeps, Lasts, Sums, RoomForAlloc, RoomForResize, RoomForRelocate, RoomForRealloc, ShrinksToNeed, Known}
-use Rattle.ledger.proofs.Rooms.{alloc-room, resize-room, relocate-room, realloc-room, resize-shrinks, realloc-shrinks}
+use Rattle.ledger.specs.Demands.{Starts, Lengths, Apart, Inside, Keeps, Lasts, Sums, RoomForAlloc, RoomForResize, RoomForRelocate}
+use Rattle.ledger.specs.Demands.{RoomForRealloc, ShrinksToNeed, Known}
+use Rattle.ledger.proofs.WantOfRoom.{alloc-room, resize-room, relocate-room, realloc-room, resize-shrinks, realloc-shrinks}
 use Rattle.ledger.proofs.Showing.{lies-apart, lies-inside, adds-up, tells}
 use Rattle.ledger.proofs.Runs.{block-keeps, run-agrees}
 use Rattle.ledger.proofs.Lasting.{stored-lasts}
 
 pub starts : Starts ours
-starts a l = start-done a .1 (λ why h. true≢false (sym l ∙ h .1))
+starts a l = start-behaves a .done .1 (λ why h. true≢false (sym l ∙ h .1))
 
 pub lengths : Lengths ours
 lengths n s run = run-agrees run .long

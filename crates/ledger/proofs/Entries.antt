@@ -50,7 +50,8 @@ module _ (b : ℕ) where
   listed-strike [] g n l = absurd l
   listed-strike (f ∷ fs) g n l = go (eqb (f .block) b) refl l (listed-strike fs g n)
     where
-      go : (gone : Bool) → eqb (f .block) b ≡ gone → Listed (f ∷ fs) g → (Listed fs g → Listed (strike b fs) g) → Listed (cond gone (strike b fs) (f ∷ strike b fs)) g
+      go : (gone : Bool) → eqb (f .block) b ≡ gone → Listed (f ∷ fs) g → (Listed fs g → Listed (strike b fs) g)
+          → Listed (cond gone (strike b fs) (f ∷ strike b fs)) g
       go true p (inl q) r = absurd (n (ap (λ (h : Entry). h .block) (sym q) ∙ eqb-true (f .block) b p))
       go true p (inr l) r = r l
       go false p (inl q) r = inl q
@@ -61,7 +62,8 @@ module _ (b : ℕ) where
   listed-struck [] g l = absurd l
   listed-struck (f ∷ fs) g l = go (eqb (f .block) b) refl l (listed-struck fs g)
     where
-      go : (gone : Bool) → eqb (f .block) b ≡ gone → Listed (cond gone (strike b fs) (f ∷ strike b fs)) g → (Listed (strike b fs) g → (g .block ≢ b) × Listed fs g) → (g .block ≢ b) × Listed (f ∷ fs) g
+      go : (gone : Bool) → eqb (f .block) b ≡ gone → Listed (cond gone (strike b fs) (f ∷ strike b fs)) g
+          → (Listed (strike b fs) g → (g .block ≢ b) × Listed fs g) → (g .block ≢ b) × Listed (f ∷ fs) g
       go true p l r = let t = r l in (t .0, inr (t .1))
       go false p (inl q) r = (λ h. eqb-false (f .block) b p (ap (λ (h : Entry). h .block) q ∙ h), inl q)
       go false p (inr l) r = let t = r l in (t .0, inr (t .1))
@@ -119,7 +121,8 @@ unfolding enter
 laid-fresh c d f [] h g l q = l
 laid-fresh c d f (e ∷ es) h g l q = go (leb (f .block) (e .block)) h (λ k m. laid-fresh (ends e) d f es k g m q) l
   where
-    go : (first : Bool) → Laid c d (cond first (f ∷ e ∷ es) (e ∷ enter f es)) → (Laid (ends e) d (enter f es) → Listed es g → ⊥) → Listed (e ∷ es) g → ⊥
+    go : (first : Bool) → Laid c d (cond first (f ∷ e ∷ es) (e ∷ enter f es)) → (Laid (ends e) d (enter f es) → Listed es g → ⊥) → Listed (e ∷ es) g
+        → ⊥
     go true k later m = omega (arith, laid-listed (ends f) d (e ∷ es) g (k .1) m .0)
     go false k later (inl p) = omega (arith, ap (λ (a : Entry). a .block) p, laid-listed (ends e) d (enter f es) f (k .1) (enter-listed f es) .0)
     go false k later (inr m) = later (k .1) m
@@ -154,14 +157,22 @@ module _ (c m : ℕ) (below : Ledger) (under : Laid c m below) (k d : ℕ) (abov
   strike-at e lo hi =
       let u : Unlisted below (e .block) = λ g l q. omega (arith, laid-listed c m below g under l) in
       let o : Unlisted above (e .block) = λ g l q. omega (arith, laid-listed k d above g over l) in
-      rw (strike-append (e .block) below (e ∷ above), strike-none (e .block) below u, eq-eqb (e .block) (e .block) refl, strike-none (e .block) above o)
+      rw (
+        strike-append (e .block) below (e ∷ above),
+        strike-none (e .block) below u,
+        eq-eqb (e .block) (e .block) refl,
+        strike-none
+            (e .block) above o,
+      )
 
-pub enter-at : (c m : ℕ) (below : Ledger) → Laid c m below → (k d : ℕ) (above : Ledger) → Laid k d above → (e : Entry) → m + headerWords ≤ e .block → e .block ≤ k
+pub enter-at : (c m : ℕ) (below : Ledger) → Laid c m below → (k d : ℕ) (above : Ledger) → Laid k d above → (e : Entry) → m + headerWords ≤ e .block
+    → e .block ≤ k
     → enter e (below ++ above) ≡ below ++ e ∷ above
 unfolding enter
 enter-at c m [] under k d above over e lo hi = enter-first e above (λ g l. omega (arith, laid-listed k d above g over l))
 enter-at c m (f ∷ fs) under k d above over e lo hi =
-    rw (lt-leb (e .block) (f .block) (omega (arith, laid-within (ends f) m fs (under .1)))) (ap (_∷_ f) (enter-at (ends f) m fs (under .1) k d above over e lo hi))
+    rw (lt-leb (e .block) (f .block) (omega (arith, laid-within (ends f) m fs (under .1))))
+    (ap (_∷_ f) (enter-at (ends f) m fs (under .1) k d above over e lo hi))
 
 -- an entry is put in, another is struck out: which is done first makes no difference
 pub strike-enter : (b : ℕ) (e : Entry) → e .block ≢ b → (c d : ℕ) (es : Ledger) → Laid c d es → strike b (enter e es) ≡ enter e (strike b es)

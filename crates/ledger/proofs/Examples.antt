@@ -1,4 +1,6 @@
--- Runs that are there, computed: that of document 01's table; its move, which goes on to a cut and a free, with what was stored last in the block; and the same move by resize and relocate, which goes on to a move to a shorter block, and to a resize.
+-- Runs that are there, computed: that of document 01's table; its move, which goes on to a cut and a free, with what
+-- was stored last in the block; and the same move by resize and relocate, which goes on to a move to a shorter block,
+-- and to a resize.
 use Prim.Native.Nat.{ℕ, _<_}
 use mathlib.Core.Path.{_≡_, refl, ap}
 use mathlib.Core.Logic.{_≢_, inl, ⊎-elim}
@@ -8,10 +10,10 @@ use lib.ListN.{set, replicate, take, drop}
 use Rattle.layout.specs.Chunks.{free as freeChunk, live as liveChunk, header, write, written}
 use Rattle.layout.specs.Walk.{meet, walk, walkFrom, walked, sound, chunksOf}
 use Rattle.layout.specs.Reasons.{arenaGate, requestGate}
-use Rattle.arena.specs.Answers.{Answer, success}
-use Rattle.arena.specs.Spots.{lowest}
-use Rattle.arena.specs.Rules.{joined, copied}
-use Rattle.arena.specs.Calls.{startOn, allocBy, freeOn, regrantBy, reportOn}
+use Rattle.rules.specs.Answers.{Answer, success}
+use Rattle.rules.specs.Spots.{lowest}
+use Rattle.rules.specs.Rules.{joined, copied}
+use Rattle.rules.specs.Calls.{startOn, allocBy, freeOn, regrantBy, reportOn}
 use Rattle.ledger.specs.Events.{Call, start, alloc, free, resize, relocate, realloc, report, Event, call, store, ours}
 use Rattle.ledger.specs.Ledger.{Entry, enter, strike, told}
 use Rattle.ledger.specs.Gaps.{gaps}
@@ -94,17 +96,20 @@ table = play freshRun (map call rowCalls) (calls-allowed rowCalls fresh)
 
 -- 010020: 0100, and then what the rows say
 pub table-answers : answers table ≡ success [] ∷ rowAnswers
-unfolding startOn allocBy freeOn regrantBy reportOn arenaGate requestGate sound chunksOf walked walkFrom walk meet lowest joined copied written write header
+unfolding startOn allocBy freeOn regrantBy reportOn arenaGate requestGate sound chunksOf walked walkFrom walk meet lowest joined copied written write
+    header
 table-answers = refl
 
 -- three blocks are held at the end
 pub table-ledger : afterAll (map call rowCalls) fresh .ledger ≡ entry 4 4 ∷ entry 10 14 ∷ entry 26 6 ∷ []
-unfolding startOn allocBy freeOn regrantBy reportOn arenaGate requestGate sound chunksOf walked walkFrom walk meet lowest joined copied written write header enter strike
+unfolding startOn allocBy freeOn regrantBy reportOn arenaGate requestGate sound chunksOf walked walkFrom walk meet lowest joined copied written write
+    header enter strike
 table-ledger = refl
 
 -- what the first five rows after the start leave: blocks 10 and 26, and the gaps below, between and above them
 pub fifth-ledger : afterAll (map call (take 5 rowCalls)) fresh .ledger ≡ entry 10 10 ∷ entry 26 6 ∷ []
-unfolding startOn allocBy freeOn regrantBy reportOn arenaGate requestGate sound chunksOf walked walkFrom walk meet lowest joined copied written write header enter strike
+unfolding startOn allocBy freeOn regrantBy reportOn arenaGate requestGate sound chunksOf walked walkFrom walk meet lowest joined copied written write
+    header enter strike
 fifth-ledger = refl
 
 pub fifth-gaps : gaps 32 (afterAll (map call (take 5 rowCalls)) fresh .ledger) ≡ 6 ∷ 4 ∷ 0 ∷ []
@@ -257,7 +262,8 @@ freed = play cut (call (free 18) ∷ []) (tt, tt)
 
 -- the cut block has 2 words, and the free is done
 pub freed-answers : answers freed ≡ answers moved ++ success (18 ∷ 2 ∷ []) ∷ success [] ∷ []
-unfolding startOn allocBy freeOn regrantBy arenaGate requestGate sound chunksOf walked walkFrom walk meet lowest written write header held stored moved filled cut freed
+unfolding startOn allocBy freeOn regrantBy arenaGate requestGate sound chunksOf walked walkFrom walk meet lowest written write header held stored
+    moved filled cut freed
 freed-answers = refl
 
 -- the words below the cut are still what was stored last
@@ -289,7 +295,8 @@ unfoldable pub halves : Run ours 32 movedState
 unfolding regrantBy arenaGate requestGate sound chunksOf walked walkFrom walk meet lowest joined copied written write header enter strike
 halves = play stored (call (resize 26 6) ∷ call (relocate 26 6) ∷ []) (tt, (tt, tt))
 
--- block 18, which has 6 words, moves to block 14, which has 2; the chunk that is freed merges with the free one above it
+-- block 18, which has 6 words, moves to block 14, which has 2; the chunk that is freed merges with the free one above
+-- it
 abbrev shorterState : State
 shorterState =
     record {
@@ -324,6 +331,8 @@ unfolding regrantBy arenaGate requestGate sound chunksOf walked walkFrom walk me
 grown = play shortened (call (resize 14 3) ∷ []) (tt, tt)
 
 -- the first resize is refused with 8, both moves are done, and the last resize keeps the block's number
-pub halves-answers : answers grown ≡ answers stored ++ record { code = 8; values = 0 ∷ 0 ∷ [] } ∷ success (18 ∷ 6 ∷ []) ∷ success (14 ∷ 2 ∷ []) ∷ success (14 ∷ 4 ∷ []) ∷ []
-unfolding startOn allocBy regrantBy arenaGate requestGate sound chunksOf walked walkFrom walk meet lowest written write header held stored halves shortened grown
+pub halves-answers : answers grown ≡ answers stored ++ record { code = 8; values = 0 ∷ 0 ∷ [] } ∷ success (18 ∷ 6 ∷ []) ∷ success
+    (14 ∷ 2 ∷ []) ∷ success (14 ∷ 4 ∷ []) ∷ []
+unfolding startOn allocBy regrantBy arenaGate requestGate sound chunksOf walked walkFrom walk meet lowest written write header held stored halves
+    shortened grown
 halves-answers = refl

@@ -8,8 +8,8 @@ use native.Mathlib.Omega.{arith}
 use Rattle.layout.specs.Numbers.{headerWords}
 use Rattle.layout.specs.Chunks.{Chunk, free, live, total}
 use Rattle.layout.proofs.Holds.{Sizes, Spaced}
-use Rattle.arena.specs.Inside.Rooms.{roomWords}
-use Rattle.arena.proofs.Blocks.{FreeShorter, free-shorter-tail}
+use Rattle.rules.specs.Rooms.{roomWords}
+use Rattle.rules.proofs.Searches.{FreeShorter, free-shorter-tail}
 use Rattle.ledger.specs.Gaps.{gapFrom, gapsFrom, EachShorter}
 use Rattle.ledger.proofs.Blocks.{blocksFrom}
 
@@ -42,10 +42,12 @@ gaps-free need p (free t ∷ pre) s post h = gaps-free need (p + t) pre s post h
 gaps-free need p (live t ∷ pre) s post h = gaps-free need 0 pre s post (h .1)
 
 -- no two free chunks stand in a row, so where every free chunk is shorter, so is every gap
-free-gaps : (need p : ℕ) (joined : Bool) (ks : List Chunk) → Spaced joined ks → (joined ≡ false → p ≡ 0) → p < need → FreeShorter need ks → EachShorter need (gapsIn p ks)
+free-gaps : (need p : ℕ) (joined : Bool) (ks : List Chunk) → Spaced joined ks → (joined ≡ false → p ≡ 0) → p < need → FreeShorter need ks
+    → EachShorter need (gapsIn p ks)
 free-gaps need p joined [] h j l f = (l, tt)
 free-gaps need p joined (free s ∷ ks) h j l f =
-    free-gaps need (p + s) true ks (h .1) (λ e. absurd (true≢false e)) (omega (arith, j (h .0), f [] s ks refl)) (free-shorter-tail need (free s) ks f)
+    free-gaps need (p + s) true ks (h .1) (λ e. absurd (true≢false e)) (omega (arith, j (h .0), f [] s ks refl))
+    (free-shorter-tail need (free s) ks f)
 free-gaps need p joined (live s ∷ ks) h j l f = (l, free-gaps need 0 false ks h (λ e. refl) (omega arith) (free-shorter-tail need (live s) ks f))
 
 pub gaps-shorter : (need : ℕ) (ks : List Chunk) → Spaced false ks → 1 ≤ need → EachShorter need (gapsIn 0 ks) ↔ FreeShorter need ks

@@ -8,25 +8,24 @@ use Rattle.layout.specs.Numbers.{firstChunk, headerWords}
 use Rattle.layout.specs.Chunks.{Chunk, free, live, total, written}
 use Rattle.layout.specs.Walk.{chunksOf}
 use Rattle.layout.proofs.Holds.{Sizes, Lawful, sizes-split}
-use Rattle.layout.proofs.Inside.{inside-kept}
+use Rattle.layout.proofs.Payload.{inside-kept}
 use Rattle.layout.proofs.Round.{sound-chunks, written-sound}
 use Rattle.layout.proofs.Written.{length-written}
-use Rattle.arena.specs.Rules.{taken, cut, trim, joined}
-use Rattle.arena.specs.Inside.Places.{Needed}
-use Rattle.arena.specs.Inside.Rooms.{roomWords, roomAfter}
-use Rattle.arena.proofs.Blocks.{BlockAt, block-sizes}
-use Rattle.arena.proofs.Room.{roomTail, room-split, room-words}
-use Rattle.arena.proofs.Staying.{KeepsOfRoom, kept-numbers, kept-sizes, kept-lawful}
-use Rattle.arena.proofs.Taking.{cut-lawful}
-use Rattle.arena.proofs.Moving.{cut-numbers}
-use Rattle.arena.proofs.Keeping.{chunks-lawful, freed-lawful}
+use Rattle.rules.specs.Rules.{taken, cut, trim, joined}
+use Rattle.rules.specs.Rooms.{Needed, roomWords, roomAfter}
+use Rattle.rules.proofs.Searches.{BlockAt, block-sizes}
+use Rattle.rules.proofs.Rooms.{roomTail, room-split, room-words}
+use Rattle.rules.proofs.Staying.{KeepsOfRoom, kept-numbers, kept-sizes, kept-lawful}
+use Rattle.rules.proofs.Remainder.{cut-lawful, cut-numbers}
+use Rattle.rules.proofs.Keeping.{chunks-lawful, freed-lawful}
 use Rattle.ledger.specs.Ledger.{Entry, Ledger, enter, strike, Listed, Unlisted}
 use Rattle.ledger.proofs.Blocks.{entryAt, blocksFrom, blocks-joined, blocks-laid, chunked}
 use Rattle.ledger.proofs.Entries.{Laid, listed-split, laid-fresh}
 use Rattle.ledger.proofs.Changes.{cut-blocks, trim-blocks, tail-blocks, enters, leaves, replaces}
 use Rattle.ledger.proofs.Agreeing.{Agrees}
 
--- the words `a` with `ledger` become the words `after` with `then`; a block goes on under the number that `renamed` gives
+-- the words `a` with `ledger` become the words `after` with `then`; a block goes on under the number that `renamed`
+-- gives
 pub record Goes (n : ℕ) (a : List ℕ) (ledger : Ledger) (renamed : ℕ → ℕ) (after : List ℕ) (then : Ledger) : Type 0 where
   pub agrees : Agrees n after then
   pub keeps : (e f : Entry) → Listed ledger e → Listed then f → f .block ≡ renamed (e .block) → (i : ℕ) → i < e .granted → i < f .granted
@@ -41,7 +40,8 @@ written-listed ks a z f l i h =
     let r = chunked firstChunk ks below f above q in
     let b : f .block ≡ firstChunk + total (r .pre) + headerWords = ap (λ (g : Entry). g .block) (r .is) in
     let s : f .granted ≡ r .s - headerWords = ap (λ (g : Entry). g .granted) (r .is) in
-    rw (r .same) (inside-kept a (r .pre) (live (r .s)) (r .post) (firstChunk + total (r .pre)) (f .block + i) (rw (r .same) at z) refl (omega arith) (omega arith))
+    rw (r .same) (inside-kept a (r .pre) (live (r .s)) (r .post) (firstChunk + total (r .pre)) (f .block + i) (rw (r .same) at z) refl (omega arith)
+    (omega arith))
 
 pub written-goes : (n : ℕ) (a : List ℕ) (ledger : Ledger) (renamed : ℕ → ℕ) (ks : List Chunk) (then : Ledger) → length a ≡ n → Lawful (length a) ks
     → then ≡ blocksFrom firstChunk ks → ((b : ℕ) → renamed b ≡ b) → Goes n a ledger renamed (written ks a) then
@@ -80,13 +80,18 @@ module _ (n : ℕ) (a : List ℕ) (ledger : Ledger) (g : Agrees n a ledger) wher
   freed-goes b pre s post is =
       let d : ℕ = firstChunk + total pre in
       let (y, z, x) = sizes-as pre (live s ∷ []) post (is .same) in
-      let l = leaves pre post y x d (d + s) refl (live s ∷ []) (free s ∷ []) (entryAt d s) (omega arith) (omega arith) refl refl (omega arith) (omega (arith, z .1)) in
-      written-goes n a ledger (λ c. c) (joined (pre ++ free s ∷ post)) (strike b ledger) (g .long) (freed-lawful a (g .is-sound) pre s post (is .same))
-      (rw (← is .number-is) (ap (strike (d + headerWords)) (lists-as (pre ++ live s ∷ post) (is .same)) ∙ l ∙ sym (blocks-joined firstChunk (pre ++ free s ∷ post)))) (λ c. refl)
+      let l = leaves pre post y x d (d + s) refl (live s ∷ []) (free s ∷ []) (entryAt d s) (omega arith) (omega arith) refl refl (omega arith)
+      (omega (arith, z .1)) in
+      written-goes n a ledger (λ c. c) (joined (pre ++ free s ∷ post)) (strike b ledger) (g .long)
+      (freed-lawful a (g .is-sound) pre s post (is .same))
+      (rw (← is .number-is) (ap (strike (d + headerWords)) (lists-as (pre ++ live s ∷ post) (is .same)) ∙ l
+      ∙ sym (blocks-joined firstChunk (pre ++ free s ∷ post)))) (λ c. refl)
 
   -- it stays where it is, and keeps so many words of its room
-  pub stays-goes : (b : ℕ) (pre : List Chunk) (s : ℕ) (post : List Chunk) (needed keep : ℕ) (renamed : ℕ → ℕ) → BlockAt a b pre s post → Needed needed → KeepsOfRoom needed s post keep → ((c : ℕ) → renamed c ≡ c)
-      → Goes n a ledger renamed (written (pre ++ (trim keep (roomWords s post) ++ roomAfter post)) a) (enter (record { block = b; granted = keep - headerWords }) (strike b ledger))
+  pub stays-goes : (b : ℕ) (pre : List Chunk) (s : ℕ) (post : List Chunk) (needed keep : ℕ) (renamed : ℕ → ℕ) → BlockAt a b pre s post
+      → Needed needed → KeepsOfRoom needed s post keep → ((c : ℕ) → renamed c ≡ c)
+      → Goes n a ledger renamed (written (pre ++ (trim keep (roomWords s post) ++ roomAfter post)) a)
+      (enter (record { block = b; granted = keep - headerWords }) (strike b ledger))
   stays-goes b pre s post needed keep renamed is nd k names =
       let d : ℕ = firstChunk + total pre in
       let words : ℕ = roomWords s post in
@@ -97,32 +102,38 @@ module _ (n : ℕ) (a : List ℕ) (ledger : Ledger) (g : Agrees n a ledger) wher
       let all = kept-sizes needed s keep post nd (block-sizes a b pre s post (g .is-sound) is) k .1 in
       let one : blocksFrom d (live s ∷ roomTail post) ≡ entryAt d s ∷ [] = ap (_∷_ (entryAt d s)) (tail-blocks (d + s) post) in
       let l = replaces pre behind y x d (d + words) refl (live s ∷ roomTail post) (trim keep words) (entryAt d s) (entryAt d keep)
-      (omega (arith, room-words s post)) (omega (arith, all)) one (trim-blocks keep words d) (omega arith) (omega (arith, nd .least)) (omega arith) (omega (arith, nd .least)) in
+      (omega (arith, room-words s post)) (omega (arith, all)) one (trim-blocks keep words d) (omega arith) (omega (arith, nd .least)) (omega arith)
+      (omega (arith, nd .least)) in
       written-goes n a ledger renamed (pre ++ (trim keep words ++ behind)) _ (g .long)
       (kept-lawful (length a) needed s keep pre post (chunks-lawful a (g .is-sound) (pre ++ live s ∷ post) (is .same)) nd k)
-      (rw (← is .number-is) (ap (λ (es : Ledger). enter (entryAt d keep) (strike (d + headerWords) es)) (lists-as (pre ++ (live s ∷ roomTail post ++ behind)) same) ∙ l)) names
+      (rw (← is .number-is) (ap (λ (es : Ledger). enter (entryAt d keep) (strike (d + headerWords) es))
+      (lists-as (pre ++ (live s ∷ roomTail post ++ behind)) same) ∙ l)) names
 
   -- ---- a need is granted from any free chunk that fits, between `pre` and `post`
 
-  module _ (pre : List Chunk) (s : ℕ) (post : List Chunk) (needed : ℕ) (same : chunksOf a ≡ pre ++ free s ∷ post) (nd : Needed needed) (enough : needed ≤ s) where
+  module _ (pre : List Chunk) (s : ℕ) (post : List Chunk) (needed : ℕ) (same : chunksOf a ≡ pre ++ free s ∷ post) (nd : Needed needed)
+      (enough : needed ≤ s) where
     pub granted-lists : enter (newEntry pre s needed) ledger ≡ blocksFrom firstChunk (pre ++ (cut needed s ++ post))
     granted-lists =
         let d : ℕ = firstChunk + total pre in
         let (y, z, x) = sizes-as pre (free s ∷ []) post same in
         let c = cut-numbers needed s enough in
         ap (enter (newEntry pre s needed)) (lists-as (pre ++ free s ∷ post) same)
-        ∙ enters pre post y x d (d + s) refl (free s ∷ []) (cut needed s) (newEntry pre s needed) (omega arith) (omega (arith, c .cut-total)) refl (cut-blocks needed s d) (omega arith)
+        ∙ enters pre post y x d (d + s) refl (free s ∷ []) (cut needed s) (newEntry pre s needed) (omega arith) (omega (arith, c .cut-total)) refl
+        (cut-blocks needed s d) (omega arith)
         (omega (arith, c .enough, c .within, nd .least))
 
     pub granted-lawful : Lawful (length a) (pre ++ (cut needed s ++ post))
     granted-lawful = cut-lawful (length a) needed pre s post (chunks-lawful a (g .is-sound) (pre ++ free s ∷ post) same) nd enough
 
     pub granted-laid : Laid firstChunk n (enter (newEntry pre s needed) ledger)
-    granted-laid = rw granted-lists (blocks-laid firstChunk (pre ++ (cut needed s ++ post)) n (sym (granted-lawful .fills ∙ g .long)) (granted-lawful .sizes))
+    granted-laid = rw granted-lists
+        (blocks-laid firstChunk (pre ++ (cut needed s ++ post)) n (sym (granted-lawful .fills ∙ g .long)) (granted-lawful .sizes))
 
     -- no block of the ledger has its number
     pub granted-fresh : Unlisted ledger (newEntry pre s needed .block)
     granted-fresh = laid-fresh firstChunk n (newEntry pre s needed) ledger granted-laid
 
     pub granted-goes : Goes n a ledger (λ c. c) (written (pre ++ (cut needed s ++ post)) a) (enter (newEntry pre s needed) ledger)
-    granted-goes = written-goes n a ledger (λ c. c) (pre ++ (cut needed s ++ post)) (enter (newEntry pre s needed) ledger) (g .long) granted-lawful granted-lists (λ c. refl)
+    granted-goes = written-goes n a ledger (λ c. c) (pre ++ (cut needed s ++ post)) (enter (newEntry pre s needed) ledger)
+        (g .long) granted-lawful granted-lists (λ c. refl)

@@ -4,11 +4,11 @@ pub mod Blocks
 pub mod Changes
 pub mod Gaps
 pub mod Agreeing
-pub mod Rooms
+pub mod WantOfRoom
 pub mod Showing
 pub mod Going
 pub mod Moves
-pub mod Calls
+pub mod CallsNoted
 pub mod Stores
 pub mod Onward
 pub mod Runs

@@ -1,4 +1,5 @@
--- A block that moves: the new block is granted, the words are copied, the old block is freed; the block goes on under the new number with its words.
+-- A block that moves: the new block is granted, the words are copied, the old block is freed; the block goes on under
+-- the new number with its words.
 use mathlib.Core.Path.{_≡_, refl, sym, ap, _∙_}
 use mathlib.Core.Logic.{_≢_, _⊎_, inl, inr}
 use mathlib.Core.Bool.{Bool, true, false, cond}
@@ -12,12 +13,12 @@ use Rattle.layout.specs.Numbers.{firstChunk, headerWords}
 use Rattle.layout.specs.Chunks.{Chunk, free, written}
 use Rattle.layout.specs.Walk.{chunksOf}
 use Rattle.layout.proofs.Written.{length-written}
-use Rattle.arena.specs.Spots.{held}
-use Rattle.arena.specs.Rules.{taken, cut, joined, copied, released}
-use Rattle.arena.specs.Inside.Places.{Needed}
-use Rattle.arena.proofs.Blocks.{BlockAt}
-use Rattle.arena.proofs.Copying.{length-copied, copied-other, copied-there}
-use Rattle.arena.proofs.Relocating.{OldStands}
+use Rattle.rules.specs.Spots.{held}
+use Rattle.rules.specs.Rules.{taken, cut, joined, copied, released}
+use Rattle.rules.specs.Rooms.{Needed}
+use Rattle.rules.proofs.Copying.{length-copied, copied-other, copied-there}
+use Rattle.rules.proofs.OldBlock.{StillThere}
+use Rattle.rules.proofs.Searches.{BlockAt}
 use Rattle.ledger.specs.Ledger.{Entry, Ledger, enter, strike, Listed, ends}
 use Rattle.ledger.proofs.Blocks.{blocksFrom}
 use Rattle.ledger.proofs.Entries.{Laid, enter-listed, listed-enter, listed-struck, laid-listed, laid-order, laid-same, strike-enter}
@@ -26,7 +27,8 @@ use Rattle.ledger.proofs.Going.{Goes, written-listed, freed-goes, newEn
 
 module _ (n : ℕ) (a : List ℕ) (ledger : Ledger) (g : Agrees n a ledger)
     (b : ℕ) (pre : List Chunk) (s : ℕ) (post : List Chunk) (is : BlockAt a b pre s post)
-    (before : List Chunk) (t : ℕ) (after : List Chunk) (needed : ℕ) (same : chunksOf a ≡ before ++ free t ∷ after) (nd : Needed needed) (enough : needed ≤ t)
+    (before : List Chunk) (t : ℕ) (after : List Chunk) (needed : ℕ) (same : chunksOf a ≡ before ++ free t ∷ after) (nd : Needed needed)
+    (enough : needed ≤ t)
     (count : ℕ) (shorter : count ≡ min (s - headerWords) (taken needed t - headerWords)) where
   abbrev new : Entry
   new = newEntry before t needed
@@ -52,18 +54,18 @@ module _ (n : ℕ) (a : List ℕ) (ledger : Ledger) (g : Agrees n a ledger)
   before-copy : (e : Entry) → Listed both e → (i : ℕ) → i < e .granted → getD (written granted a) (e .block + i) 0 ≡ getD a (e .block + i) 0
   before-copy e l = written-listed granted a (granted-lawful n a ledger g before t after needed same nd enough .sizes) e (rw both-lists at l)
 
-  module _ (r : OldStands copiedWords b s granted) where
+  module _ (r : StillThere copiedWords b s granted) where
     both-agree : Agrees n copiedWords both
     both-agree =
         record {
-          is-sound = r .is-sound;
+          is-sound = r .0;
           long = length-copied b (new .block) (written granted a) count ∙ length-written granted a ∙ g .long;
-          lists = both-lists ∙ ap (blocksFrom firstChunk) (sym (r .chunks));
+          lists = both-lists ∙ ap (blocksFrom firstChunk) (sym (r .1));
         }
 
     -- the old block is freed
-    freed : Goes n copiedWords both (λ c. c) (written (joined (r .pre ++ free s ∷ r .post)) copiedWords) (strike b both)
-    freed = freed-goes n copiedWords both both-agree b (r .pre) s (r .post) (r .old)
+    freed : Goes n copiedWords both (λ c. c) (written (joined (r .2 ++ free s ∷ r .3)) copiedWords) (strike b both)
+    freed = freed-goes n copiedWords both both-agree b (r .2) s (r .3) (record { same = r .1 ∙ r .4 .same; number-is = r .4 .number-is })
 
     old-listed : Listed ledger (record { block = b; granted = s - headerWords })
     old-listed = block-listed n a ledger g b pre s post is
@@ -77,38 +79,47 @@ module _ (n : ℕ) (a : List ℕ) (ledger : Ledger) (g : Agrees n a ledger)
     new-long f m p = ap (λ (d : Entry). d .granted) (laid-same firstChunk n both f new both-laid m (enter-listed new ledger) p)
 
     -- the old block has its words in the new one, as many as both have
-    copied-new : (e : Entry) → Listed ledger e → e .block ≡ b → (i : ℕ) → i < e .granted → i < new .granted → getD copiedWords (new .block + i) 0 ≡ getD a (e .block + i) 0
+    copied-new : (e : Entry) → Listed ledger e → e .block ≡ b → (i : ℕ) → i < e .granted → i < new .granted
+        → getD copiedWords (new .block + i) 0 ≡ getD a (e .block + i) 0
     copied-new e l q i h j =
         let m : ends new ≤ n = laid-listed firstChunk n both new both-laid (enter-listed new ledger) .1 in
-        let f : e .granted ≡ s - headerWords = ap (λ (d : Entry). d .granted) (laid-same firstChunk n ledger e _ (agrees-laid n a ledger g) l old-listed q) in
+        let f : e .granted ≡ s - headerWords =
+        ap (λ (d : Entry). d .granted) (laid-same firstChunk n ledger e _ (agrees-laid n a ledger g) l old-listed q) in
         copied-there b (new .block) (written granted a) count i (omega (arith, shorter)) (rw length-written (omega (arith, g .long, shorter)))
         ∙ ap (λ (c : ℕ). getD (written granted a) (c + i) 0) (sym q)
         ∙ before-copy e (listed-enter new ledger e l) i h
 
     -- every other block is left alone
-    copied-beside : (f : Entry) → Listed both f → f .block ≢ new .block → (i : ℕ) → i < f .granted → getD copiedWords (f .block + i) 0 ≡ getD a (f .block + i) 0
+    copied-beside : (f : Entry) → Listed both f → f .block ≢ new .block → (i : ℕ) → i < f .granted
+        → getD copiedWords (f .block + i) 0 ≡ getD a (f .block + i) 0
     copied-beside f l q i h =
-        copied-other b (new .block) (written granted a) count (f .block + i) (beside (laid-order firstChunk n both f new both-laid l (enter-listed new ledger)))
+        copied-other b (new .block) (written granted a) count (f .block + i)
+        (beside (laid-order firstChunk n both f new both-laid l (enter-listed new ledger)))
         ∙ before-copy f l i h
       where
-        beside : (f ≡ new) ⊎ ((ends f + headerWords ≤ new .block) ⊎ (ends new + headerWords ≤ f .block)) → (f .block + i < new .block) ⊎ (new .block + count ≤ f .block + i)
+        beside : (f ≡ new) ⊎ ((ends f + headerWords ≤ new .block) ⊎ (ends new + headerWords ≤ f .block))
+            → (f .block + i < new .block) ⊎ (new .block + count ≤ f .block + i)
         beside (inl p) = absurd (q (ap (λ (e : Entry). e .block) p))
         beside (inr (inl p)) = inl (omega arith)
         beside (inr (inr p)) = inr (omega (arith, shorter))
 
     -- a block that goes on keeps its words, up to the free of the old one
-    carried-on : (e f : Entry) → Listed ledger e → Listed both f → (moved : Bool) → eqb (e .block) b ≡ moved → f .block ≡ cond moved (new .block) (e .block)
+    carried-on : (e f : Entry) → Listed ledger e → Listed both f → (moved : Bool) → eqb (e .block) b ≡ moved
+        → f .block ≡ cond moved (new .block) (e .block)
         → (i : ℕ) → i < e .granted → i < f .granted → getD copiedWords (f .block + i) 0 ≡ getD a (e .block + i) 0
-    carried-on e f l m true q p i h j = ap (λ (c : ℕ). getD copiedWords (c + i) 0) p ∙ copied-new e l (eqb-true (e .block) b q) i h (omega (arith, new-long f m p))
+    carried-on e f l m true q p i h j =
+        ap (λ (c : ℕ). getD copiedWords (c + i) 0) p ∙ copied-new e l (eqb-true (e .block) b q) i h (omega (arith, new-long f m p))
     carried-on e f l m false q p i h j =
         copied-beside f m (λ u. granted-fresh n a ledger g before t after needed same nd enough e l (sym p ∙ u)) i j
         ∙ ap (λ (c : ℕ). getD a (c + i) 0) p
 
-    pub moved-goes : Goes n a ledger (λ c. cond (eqb c b) (new .block) c) (written (released (held b granted)) copiedWords) (enter new (strike b ledger))
+    pub moved-goes : Goes n a ledger (λ c. cond (eqb c b) (new .block) c) (written (released (held b granted)) copiedWords)
+        (enter new (strike b ledger))
     moved-goes =
-        rw (r .leaves, ← strike-enter b new new-other firstChunk n ledger (agrees-laid n a ledger g))
+        rw (r .5, ← strike-enter b new new-other firstChunk n ledger (agrees-laid n a ledger g))
         (record {
           agrees = freed .agrees;
           keeps = λ e f l m p i h j.
-              freed .keeps f f (listed-struck b both f m .1) m refl i j j ∙ carried-on e f l (listed-struck b both f m .1) (eqb (e .block) b) refl p i h j;
+              freed .keeps f f (listed-struck b both f m .1) m refl i j j ∙ carried-on e f l (listed-struck b both f m .1)
+              (eqb (e .block) b) refl p i h j;
         })

@@ -1,4 +1,5 @@
--- How a block goes on in the ledger after an event, whatever the library: it ends, its entry stays, or it has the entry that is answered.
+-- How a block goes on in the ledger after an event, whatever the library: it ends, its entry stays, or it has the entry
+-- that is answered.
 use mathlib.Core.Path.{_≡_, refl, sym, ap, _∙_}
 use mathlib.Core.Logic.{inl, inr}
 use mathlib.Core.Bool.{Bool, true, false, cond}
@@ -6,9 +7,10 @@ use Prim.Native.Nat.{ℕ, _+_, _<_}
 use native.Mathlib.Omega.{arith}
 use lib.Dec.{leb, eqb}
 use borrow.Author.Tests.{eqb-true, eqb-false, leb-true, leb-false}
-use Rattle.arena.specs.Answers.{Answer}
+use Rattle.rules.specs.Answers.{Answer}
 use Rattle.ledger.specs.Events.{Event, Library}
-use Rattle.ledger.specs.Ledger.{Entry, Ledger, enter, strike, Effect, empties, grants, frees, regrants, spares, effect, told, noted, Done, Listed, Held}
+use Rattle.ledger.specs.Ledger.{Entry, Ledger, enter, strike, Effect, empties, grants, frees, regrants, spares, effect, told, noted, Done}
+use Rattle.ledger.specs.Ledger.{Listed, Held}
 use Rattle.ledger.specs.Runs.{State, answerTo, after}
 use Rattle.ledger.specs.Holders.{renamed, numberAfter, Ended, Cut}
 use Rattle.ledger.proofs.Entries.{enter-listed, listed-enter, listed-strike}
@@ -18,7 +20,8 @@ module _ (library : Library) (event : Event) (s : State) where
   pub data Onward (e : Entry) (then : Ledger) (b : ℕ) : Type 0 where
     ends : Ended library event s (e .block) → Onward e then b
     stays : Listed then e → e .block ≡ b → Onward e then b
-    changes : Done (answerTo library event s) → effect event ≡ regrants (e .block) → Listed then (told (answerTo library event s)) → told (answerTo library event s) .block ≡ b → Onward e then b
+    changes : Done (answerTo library event s) → effect event ≡ regrants (e .block) → Listed then (told (answerTo library event s))
+        → told (answerTo library event s) .block ≡ b → Onward e then b
 
   module _ (e : Entry) (l : Listed (s .ledger) e) where
     answer : Answer
@@ -46,12 +49,14 @@ module _ (library : Library) (event : Event) (s : State) where
     onward = go (eqb (answer .code) 0) refl
       where
         go : (done : Bool) → eqb (answer .code) 0 ≡ done
-            → Onward e (cond done (noted (effect event) answer (s .ledger)) (s .ledger)) (cond done (renamed (effect event) answer (e .block)) (e .block))
+            → Onward e (cond done (noted (effect event) answer (s .ledger)) (s .ledger))
+            (cond done (renamed (effect event) answer (e .block)) (e .block))
         go true q = done-onward (eqb-true (answer .code) 0 q) (effect event) refl
         go false q = stays l refl
 
   -- a place is still held if its block does not end and it is not cut off
-  pub still-held : (b i : ℕ) → Held (s .ledger) b i → (Ended library event s b → ⊥) → (Cut library event s b i → ⊥) → Held (after library event s .ledger) (numberAfter library event s b) i
+  pub still-held : (b i : ℕ) → Held (s .ledger) b i → (Ended library event s b → ⊥) → (Cut library event s b i → ⊥)
+      → Held (after library event s .ledger) (numberAfter library event s b) i
   still-held b i (e, l, q, h) unended uncut = rw (← q) (go (onward e l))
     where
       within : Done (answerTo library event s) → effect event ≡ regrants (e .block) → i < told (answerTo library event s) .granted
@@ -61,7 +66,8 @@ module _ (library : Library) (event : Event) (s : State) where
           cases true r = omega (arith, leb-true (i + 1) (told (answerTo library event s) .granted) r)
           cases false r = absurd (uncut (z, p ∙ ap regrants q, omega (arith, leb-false (i + 1) (told (answerTo library event s) .granted) r)))
 
-      go : Onward e (after library event s .ledger) (numberAfter library event s (e .block)) → Held (after library event s .ledger) (numberAfter library event s (e .block)) i
+      go : Onward e (after library event s .ledger) (numberAfter library event s (e .block))
+          → Held (after library event s .ledger) (numberAfter library event s (e .block)) i
       go (ends end) = absurd (unended (rw q at end))
       go (stays m r) = (e, m, r, h)
       go (changes z p m r) = (told (answerTo library event s), m, r, within z p)

@@ -6,8 +6,8 @@ use Prim.Native.Nat.{ℕ, _+_, _<_}
 use native.Mathlib.Omega.{arith}
 use lib.ListN.{length, getD}
 use Rattle.layout.specs.Numbers.{firstChunk, lawful}
-use Rattle.arena.proofs.Starting.{start-sound, start-chunks}
-use Rattle.arena.proofs.Keeping.{start-length}
+use Rattle.rules.proofs.Starting.{start-sound, start-chunks}
+use Rattle.rules.proofs.Calls.{start-behaves}
 use Rattle.ledger.specs.Events.{Event, call, store, ours}
 use Rattle.ledger.specs.Ledger.{Entry, Listed}
 use Rattle.ledger.specs.Runs.{State, Allowed, after, Run, begun, next}
@@ -15,7 +15,7 @@ use Rattle.ledger.specs.Holders.{wordAfter, numberAfter, Ended}
 use Rattle.ledger.specs.Demands.{GoesOn}
 use Rattle.ledger.proofs.Blocks.{blocksFrom}
 use Rattle.ledger.proofs.Agreeing.{Agrees}
-use Rattle.ledger.proofs.Calls.{call-goes}
+use Rattle.ledger.proofs.CallsNoted.{call-goes}
 use Rattle.ledger.proofs.Onward.{Onward, ends, stays, changes, onward}
 use Rattle.ledger.proofs.Stores.{store-agrees, store-keeps}
 
@@ -46,7 +46,8 @@ module _ (n : ℕ) (s : State) (g : AgreesAt n s) (event : Event) (allowed : All
   pub block-keeps : Ended ours event s (e .block) ⊎ GoesOn ours s event e
   block-keeps = go (onward ours event s e l)
     where
-      go : Onward ours event s e (after ours event s .ledger) (numberAfter ours event s (e .block)) → Ended ours event s (e .block) ⊎ GoesOn ours s event e
+      go : Onward ours event s e (after ours event s .ledger) (numberAfter ours event s (e .block))
+          → Ended ours event s (e .block) ⊎ GoesOn ours s event e
       go (ends end) = inl end
       go (stays m q) = inr (goes-on e m q)
       go (changes z p m q) = inr (goes-on _ m q)
@@ -58,7 +59,7 @@ run-agrees (begun a long l) =
     let lawful-length : lawful (length a) ≡ true = ap lawful long ∙ l in
     record {
       is-sound = start-sound a lawful-length;
-      long = start-length a ∙ long;
+      long = start-behaves a .same-length ∙ long;
       lists = ap (blocksFrom firstChunk) (sym (start-chunks a lawful-length));
     }
 run-agrees (next {s} run event allowed) = event-agrees _ s (run-agrees run) event allowed

@@ -1,28 +1,33 @@
--- What a ledger that agrees with an arena shows: where its blocks lie, what they add up to, and what the answers tell of them.
+-- What a ledger that agrees with an arena shows: where its blocks lie, what they add up to, and what the answers tell
+-- of them.
 use mathlib.Core.Path.{_≡_, refl, sym, ap, _∙_}
 use mathlib.Core.Logic.{_≢_, _↔_, Iff·trans}
-use mathlib.Core.Bool.{Bool, true, false, true≢false, cond}
+use mathlib.Core.Bool.{true, false, true≢false}
 use mathlib.Core.List.{List, [], _∷_, _++_}
 use Prim.Native.Nat.{ℕ, _+_, _-_, _≤_}
 use native.Mathlib.Omega.{arith}
-use borrow.Author.Tests.{leb-false}
 use lib.ListN.{length, take, drop}
-use Rattle.layout.specs.Numbers.{controlWords, firstChunk, headerWords, leastSplit, lawful, need}
+use Rattle.layout.specs.Numbers.{controlWords, firstChunk, headerWords, lawful, need}
 use Rattle.layout.specs.Walk.{sound, chunksOf}
 use Rattle.layout.specs.Reasons.{number}
 use Rattle.layout.specs.declared.Reason.{Reason}
 use Rattle.layout.specs.declared.Reason.the-variants.{Length, Damaged, NotABlock, NoRoom, WouldMove}
 use Rattle.layout.proofs.Reasons.{number-positive}
-use Rattle.arena.specs.Answers.{Answer, Outcome, success}
-use Rattle.arena.specs.Rules.{splits, taken, freeWords, widest, liveBlocks, freeChunks}
-use Rattle.arena.specs.Calls.{freeOn, sizeOn, viewOn, reportOn}
-use Rattle.arena.proofs.Gates.{sound-lawful, sound-gate}
-use Rattle.arena.proofs.Blocks.{NoBlock, block-held}
-use Rattle.arena.proofs.Cases.{Case, refuses, does, Allots, allots, alloc-case}
-use Rattle.arena.proofs.Staying.{kept-numbers}
-use Rattle.arena.proofs.Regranting.{Resizes, resizes, Relocates, moves, Regrants, in-place, elsewhere, resize-case, relocate-case, realloc-case}
-use Rattle.arena.proofs.Corners.{view-empty, resize-stays, relocate-moves}
-use Rattle.arena.proofs.Reasons.{arena-refused, start-refused, alloc-refused, free-refused, resize-refused, relocate-refused, realloc-refused, size-refused, report-refused}
+use Rattle.rules.specs.Answers.{Answer, Outcome, success}
+use Rattle.rules.specs.Rules.{taken, freeWords, widest, liveBlocks, freeChunks}
+use Rattle.rules.specs.Calls.{freeOn, sizeOn, viewOn, reportOn}
+use Rattle.rules.specs.Stands.{NoBlock}
+use Rattle.rules.proofs.Gates.{sound-lawful, sound-gate}
+use Rattle.rules.proofs.Searches.{block-held}
+use Rattle.rules.proofs.CallCases.{Case, refuses, does, Allots, allots, alloc-case}
+use Rattle.rules.proofs.Remainder.{cut-numbers}
+use Rattle.rules.proofs.Staying.{kept-numbers}
+use Rattle.rules.proofs.RegrantCases.{Resizes, resizes, Relocates, moves, Regrants, in-place, elsewhere, resize-case, relocate-case, realloc-case}
+use Rattle.rules.proofs.EmptyViews.{view-empty}
+use Rattle.rules.proofs.BlockNumbers.{resize-stays, relocate-moves}
+use Rattle.rules.proofs.Given.{arena-refused}
+use Rattle.rules.proofs.Calls.{start-behaves, alloc-behaves, free-behaves, resize-behaves, relocate-behaves, realloc-behaves, size-behaves}
+use Rattle.rules.proofs.Calls.{report-behaves}
 use Rattle.ledger.specs.Events.{Call, start, alloc, free, resize, relocate, realloc, size, view, report, ours}
 use Rattle.ledger.specs.Ledger.{Entry, Ledger, told, Done, Listed, Unlisted, begins, ends, heldWords}
 use Rattle.ledger.specs.Demands.{LawfulRequest, HasNeed, freeWordsIn, Tells}
@@ -35,37 +40,37 @@ use Rattle.ledger.proofs.Agreeing.{Agrees, chunked-block, agrees-laid, 
 -- a call that gives one of the first two reasons has an unlawful length, or an arena that is not sound
 gate-refused : (a : List ℕ) (c : Call)
     → (ours c a .answer .code ≡ number Length → lawful (length a) ≡ false) × (ours c a .answer .code ≡ number Damaged → sound a ≡ false)
-gate-refused a start = (λ e. start-refused a Length .0 e .1, λ e. absurd (omega (arith, ap number (start-refused a Damaged .0 e .0))))
-gate-refused a (alloc w) = arena-refused a _ _ _ _ _ (λ why. alloc-refused a w why .0)
-gate-refused a (free b) = arena-refused a _ _ _ _ _ (λ why. free-refused a b why .0)
-gate-refused a (resize b w) = arena-refused a _ _ _ _ _ (λ why. resize-refused a b w why .0)
-gate-refused a (relocate b w) = arena-refused a _ _ _ _ _ (λ why. relocate-refused a b w why .0)
-gate-refused a (realloc b w) = arena-refused a _ _ _ _ _ (λ why. realloc-refused a b w why .0)
-gate-refused a (size b) = arena-refused a _ _ _ _ _ (λ why. size-refused a b why .0)
+gate-refused a start = (
+  λ e. start-behaves a .refused Length .0 e .1,
+  λ e. absurd
+      (omega (arith, ap number (start-behaves a .refused Damaged .0 e .0))),
+)
+gate-refused a (alloc w) = arena-refused a _ _ _ _ _ (λ why. alloc-behaves a w .refused why .0)
+gate-refused a (free b) = arena-refused a _ _ _ _ _ (λ why. free-behaves a b .refused why .0)
+gate-refused a (resize b w) = arena-refused a _ _ _ _ _ (λ why. resize-behaves a b w .refused why .0)
+gate-refused a (relocate b w) = arena-refused a _ _ _ _ _ (λ why. relocate-behaves a b w .refused why .0)
+gate-refused a (realloc b w) = arena-refused a _ _ _ _ _ (λ why. realloc-behaves a b w .refused why .0)
+gate-refused a (size b) = arena-refused a _ _ _ _ _ (λ why. size-behaves a b .refused why .0)
 gate-refused a (view b) = (λ e. absurd (omega arith), λ e. absurd (omega arith))
-gate-refused a report = arena-refused a _ _ _ _ _ (λ why. report-refused a why .0)
+gate-refused a report = arena-refused a _ _ _ _ _ (λ why. report-behaves a .refused why .0)
 
 -- a call that would move its block is a resize, and to a number of words that may be asked for
 would-move : (a : List ℕ) (c : Call) → ours c a .answer .code ≡ number WouldMove → (b : ℕ) × (w : ℕ) × (c ≡ resize b w) × LawfulRequest (length a) w
-would-move a start e = absurd (omega (arith, ap number (start-refused a WouldMove .0 e .0)))
-would-move a (alloc w) e = absurd (alloc-refused a w WouldMove .0 e .1)
-would-move a (free b) e = absurd (free-refused a b WouldMove .0 e .1)
-would-move a (resize b w) e = (b, w, refl, resize-refused a b w WouldMove .0 e .1 .0)
-would-move a (relocate b w) e = absurd (relocate-refused a b w WouldMove .0 e .1)
-would-move a (realloc b w) e = absurd (realloc-refused a b w WouldMove .0 e .1)
-would-move a (size b) e = absurd (size-refused a b WouldMove .0 e .1)
+would-move a start e = absurd (omega (arith, ap number (start-behaves a .refused WouldMove .0 e .0)))
+would-move a (alloc w) e = absurd (alloc-behaves a w .refused WouldMove .0 e .1)
+would-move a (free b) e = absurd (free-behaves a b .refused WouldMove .0 e .1)
+would-move a (resize b w) e = (b, w, refl, resize-behaves a b w .refused WouldMove .0 e .1 .0)
+would-move a (relocate b w) e = absurd (relocate-behaves a b w .refused WouldMove .0 e .1)
+would-move a (realloc b w) e = absurd (realloc-behaves a b w .refused WouldMove .0 e .1)
+would-move a (size b) e = absurd (size-behaves a b .refused WouldMove .0 e .1)
 would-move a (view b) e = absurd (omega arith)
-would-move a report e = absurd (report-refused a WouldMove .0 e .1)
+would-move a report e = absurd (report-behaves a .refused WouldMove .0 e .1)
 
 -- ---- what is granted
 
 -- what is taken of words that are enough is the need, with few over, and it is the granted words and their header
 need-taken : (w s : ℕ) → need w ≤ s → HasNeed w (headerWords + (taken (need w) s - headerWords))
-need-taken w s enough = go (splits (need w) s) refl
-  where
-    go : (split : Bool) → splits (need w) s ≡ split → HasNeed w (headerWords + (cond split (need w) s - headerWords))
-    go true e = omega arith
-    go false e = omega (arith, leb-false leastSplit (s - need w) e)
+need-taken w s enough = omega (arith, cut-numbers (need w) s enough)
 
 -- a call that grants is refused, or grants the need of the request
 need-granted : {fields : ℕ} {a : List ℕ} {Refuses : Reason → Type 0} {Does : List ℕ → List ℕ → Type 0} {outcome : Outcome} (w : ℕ)
@@ -75,15 +80,17 @@ need-granted w f (refuses why r) e = absurd (omega (arith, number-positive why))
 need-granted w f (does {values} {after} d) e = f values after d
 
 alloc-grants : (a : List ℕ) (w : ℕ) (values after : List ℕ) → Allots a w values after → HasNeed w (headerWords + told (success values) .granted)
-alloc-grants a w values after (allots e r pre s post is) = need-taken w s (is .enough)
+alloc-grants a w values after (allots e r pre s post (same, enough)) = need-taken w s enough
 
 resize-grants : (a : List ℕ) (b w : ℕ) (values after : List ℕ) → Resizes a b w values after → HasNeed w (headerWords + told (success values) .granted)
 resize-grants a b w values after (resizes e r pre s post is keep k) = omega (arith, kept-numbers (need w) s keep post k)
 
-relocate-grants : (a : List ℕ) (b w : ℕ) (values after : List ℕ) → Relocates a b w values after → HasNeed w (headerWords + told (success values) .granted)
-relocate-grants a b w values after (moves e r pre s post is before t behind gap block at-is ks same count shorter) = need-taken w t (gap .enough)
+relocate-grants : (a : List ℕ) (b w : ℕ) (values after : List ℕ) → Relocates a b w values after
+    → HasNeed w (headerWords + told (success values) .granted)
+relocate-grants a b w values after (moves e r pre s post is before t behind gap block at-is ks same count shorter) = need-taken w t (gap .1)
 
-realloc-grants : (a : List ℕ) (b w : ℕ) (values after : List ℕ) → Regrants a b w values after → HasNeed w (headerWords + told (success values) .granted)
+realloc-grants : (a : List ℕ) (b w : ℕ) (values after : List ℕ) → Regrants a b w values after
+    → HasNeed w (headerWords + told (success values) .granted)
 realloc-grants a b w values after (in-place d) = resize-grants a b w values after d
 realloc-grants a b w values after (elsewhere d) = relocate-grants a b w values after d
 
@@ -100,7 +107,8 @@ module _ (n : ℕ) (a : List ℕ) (ledger : Ledger) (agrees : Agrees n a ledger)
 
   -- ---- what the answers tell
 
-  reported : reportOn a .answer ≡ success (freeWords (chunksOf a) ∷ (widest (chunksOf a) - headerWords) ∷ liveBlocks (chunksOf a) ∷ freeChunks (chunksOf a) ∷ [])
+  reported : reportOn a .answer ≡ success
+      (freeWords (chunksOf a) ∷ (widest (chunksOf a) - headerWords) ∷ liveBlocks (chunksOf a) ∷ freeChunks (chunksOf a) ∷ [])
   unfolding reportOn
   reported = rw (sound-gate a (agrees .is-sound))
 
@@ -128,7 +136,8 @@ module _ (n : ℕ) (a : List ℕ) (ledger : Ledger) (agrees : Agrees n a ledger)
 
   -- a call that is refused for its block, which is none, has a number that no entry has
   refused-unlisted : (b : ℕ) {code : ℕ} → (code ≡ number NotABlock) ↔ ((sound a ≡ true) × NoBlock a b) → (code ≡ number NotABlock) ↔ Unlisted ledger b
-  refused-unlisted b refused = Iff·trans refused (λ h. unlisted-block n a ledger agrees b .0 (h .1), λ un. (agrees .is-sound, unlisted-block n a ledger agrees b .1 un))
+  refused-unlisted b refused = Iff·trans refused
+      (λ h. unlisted-block n a ledger agrees b .0 (h .1), λ un. (agrees .is-sound, unlisted-block n a ledger agrees b .1 un))
 
   pub tells : Tells ours a ledger
   tells =
@@ -139,17 +148,17 @@ module _ (n : ℕ) (a : List ℕ) (ledger : Ledger) (agrees : Agrees n a ledger)
         free-listed = freed;
         resize-grants = λ b w. need-granted w (resize-grants a b w) (resize-case a b w);
         resize-stays = resize-stays a;
-        resize-never-full = λ b w e. resize-refused a b w NoRoom .0 e .1;
+        resize-never-full = λ b w e. resize-behaves a b w .refused NoRoom .0 e .1;
         only-resize-would-move = would-move a;
         relocate-grants = λ b w. need-granted w (relocate-grants a b w) (relocate-case a b w);
         relocate-moves = relocate-moves a;
         realloc-grants = λ b w. need-granted w (realloc-grants a b w) (realloc-case a b w);
-        view-unlisted = λ b un. ap success (view-empty a b .1 (λ e. omega (arith, refused-unlisted b (size-refused a b NotABlock) .1 un)));
-        free-known = λ b. refused-unlisted b (free-refused a b NotABlock);
-        resize-known = λ w b. refused-unlisted b (resize-refused a b w NotABlock);
-        relocate-known = λ w b. refused-unlisted b (relocate-refused a b w NotABlock);
-        realloc-known = λ w b. refused-unlisted b (realloc-refused a b w NotABlock);
-        size-known = λ b. refused-unlisted b (size-refused a b NotABlock);
+        view-unlisted = λ b un. ap success (view-empty a b .1 (λ e. omega (arith, refused-unlisted b (size-behaves a b .refused NotABlock) .1 un)));
+        free-known = λ b. refused-unlisted b (free-behaves a b .refused NotABlock);
+        resize-known = λ w b. refused-unlisted b (resize-behaves a b w .refused NotABlock);
+        relocate-known = λ w b. refused-unlisted b (relocate-behaves a b w .refused NotABlock);
+        realloc-known = λ w b. refused-unlisted b (realloc-behaves a b w .refused NotABlock);
+        size-known = λ b. refused-unlisted b (size-behaves a b .refused NotABlock);
         size-listed = sized;
         view-listed = λ e listed. ap success (viewed e listed);
         report-done = ap (λ (answer : Answer). answer .code) reported;

@@ -11,7 +11,7 @@ use lib.Seq.{getD-set-same, getD-set-other}
 use borrow.Author.Tests.{eqb-true, eqb-false}
 use Rattle.layout.specs.Numbers.{firstChunk, headerWords}
 use Rattle.layout.specs.Chunks.{live, total}
-use Rattle.layout.proofs.Inside.{store-inside}
+use Rattle.layout.proofs.Payload.{store-inside}
 use Rattle.layout.proofs.Round.{sound-chunks, arena-sound, arena-chunks}
 use Rattle.ledger.specs.Ledger.{Entry, Ledger, Listed, ends, Held}
 use Rattle.ledger.proofs.Blocks.{blocksFrom}
@@ -20,7 +20,8 @@ use Rattle.ledger.proofs.Agreeing.{Agrees, agrees-laid, listed-chunked}
 
 module _ (n : ℕ) (a : List ℕ) (ledger : Ledger) (g : Agrees n a ledger) where
   -- a word of the blocks is at one place of one of them
-  one-place : (e f : Entry) → Listed ledger e → Listed ledger f → (i j : ℕ) → i < e .granted → j < f .granted → e .block + i ≡ f .block + j → (e .block ≡ f .block) × (i ≡ j)
+  one-place : (e f : Entry) → Listed ledger e → Listed ledger f → (i j : ℕ) → i < e .granted → j < f .granted → e .block + i ≡ f .block + j
+      → (e .block ≡ f .block) × (i ≡ j)
   one-place e f l m i j h k q = go (laid-order firstChunk n ledger e f (agrees-laid n a ledger g) l m)
     where
       go : (e ≡ f) ⊎ ((ends e + headerWords ≤ f .block) ⊎ (ends f + headerWords ≤ e .block)) → (e .block ≡ f .block) × (i ≡ j)
@@ -57,7 +58,8 @@ module _ (n : ℕ) (a : List ℕ) (ledger : Ledger) (g : Agrees n a ledger) wher
         elsewhere : ((e .block ≡ b) × (j ≡ i) → ⊥) → getD (set a (b + i) v) (e .block + j) 0 ≡ getD a (e .block + j) 0
         elsewhere other =
             let (f, m, q, k) = held in
-            getD-set-other a (b + i) (e .block + j) v 0 (λ p. let r = one-place e f l m j i h k (p ∙ ap (λ (c : ℕ). c + i) (sym q)) in other (r .0 ∙ q, r .1))
+            getD-set-other a (b + i) (e .block + j) v 0
+            (λ p. let r = one-place e f l m j i h k (p ∙ ap (λ (c : ℕ). c + i) (sym q)) in other (r .0 ∙ q, r .1))
 
         go : (block place : Bool) → eqb (e .block) b ≡ block → eqb j i ≡ place
             → getD (set a (b + i) v) (e .block + j) 0 ≡ cond (block && place) v (getD a (e .block + j) 0)

@@ -13,16 +13,17 @@ use Rattle.layout.specs.Numbers.{controlWords, lawful, greatestRequest, need}
 use Rattle.layout.specs.Chunks.{header, write, written}
 use Rattle.layout.specs.Walk.{meet, walk, walkFrom, walked, sound, chunksOf}
 use Rattle.layout.specs.Reasons.{arenaGate, requestGate}
-use Rattle.arena.specs.Answers.{Answer, Outcome, success}
-use Rattle.arena.specs.Spots.{lowest}
-use Rattle.arena.specs.Rules.{joined, copied}
-use Rattle.arena.specs.Calls.{startOn, allocBy, freeOn, regrantBy, sizeOn, reportOn}
+use Rattle.rules.specs.Answers.{Answer, Outcome, success}
+use Rattle.rules.specs.Spots.{lowest}
+use Rattle.rules.specs.Rules.{joined, copied}
+use Rattle.rules.specs.Calls.{startOn, allocBy, freeOn, regrantBy, sizeOn, reportOn}
 use Rattle.ledger.specs.Events.{Call, start, alloc, free, resize, relocate, realloc, size, view, report, call, store, Library, ours}
 use Rattle.ledger.specs.Gaps.{RoomShorter}
 use Rattle.ledger.specs.Ledger.{enter, strike, told, Done, begins, ends}
 use Rattle.ledger.specs.Runs.{Allowed, Run, begun, next}
 use Rattle.ledger.specs.Holders.{just, still}
-use Rattle.ledger.specs.Demands.{Starts, Lengths, Apart, Inside, Keeps, Lasts, Sums, RoomForAlloc, RoomForResize, RoomForRelocate, RoomForRealloc, ShrinksToNeed, freeWordsIn, liveBlocksIn, Known}
+use Rattle.ledger.specs.Demands.{Starts, Lengths, Apart, Inside, Keeps, Lasts, Sums, RoomForAlloc, RoomForResize, RoomForRelocate}
+use Rattle.ledger.specs.Demands.{RoomForRealloc, ShrinksToNeed, freeWordsIn, liveBlocksIn, Known}
 use Rattle.ledger.proofs.Examples.{clash}
 
 -- ---- what the room rule asks of a new arena: its first alloc is done
@@ -35,11 +36,13 @@ record Once (library : Library) (a : List ℕ) (w : ℕ) : Type 0 where
       Run library (length a)
       (record { words = library (alloc w) (library start a .words) .words; ledger = told (library (alloc w) (library start a .words) .answer) ∷ [] })
 
-has-once : (library : Library) → RoomForAlloc library alloc → (a : List ℕ) (w : ℕ) → lawful (length a) ≡ true → (1 ≤ w) × (need w ≤ length a - controlWords) → Once library a w
+has-once : (library : Library) → RoomForAlloc library alloc → (a : List ℕ) (w : ℕ) → lawful (length a) ≡ true
+    → (1 ≤ w) × (need w ≤ length a - controlWords) → Once library a w
 unfolding enter
 has-once library room a w l fits =
     let started : Run library (length a) _ = begun a refl l in
-    let done : Done (library (alloc w) (library start a .words) .answer) = room (length a) _ started w (omega arith) .done .1 (λ short. omega arith) in
+    let done : Done (library (alloc w) (library start a .words) .answer) =
+    room (length a) _ started w (omega arith) .done .1 (λ short. omega arith) in
     record { started = started; done = done; once = rw done at (next started (call (alloc w)) tt) }
 
 -- a new arena of 6 words has room for 2
@@ -75,7 +78,8 @@ refuses-start library refuses starts = refuses start _ (starts (replicate 6 0) r
 abbrev pub GrantsBlockFour : Library → Type 0
 GrantsBlockFour library = (w : ℕ) (a : List ℕ) → Done (library (alloc w) a .answer) → told (library (alloc w) a .answer) .block ≡ 4
 
--- if it keeps the room rule and grants just the need, its blocks overlap: of 16 words, the first block leaves room for a second
+-- if it keeps the room rule and grants just the need, its blocks overlap: of 16 words, the first block leaves room for
+-- a second
 pub grants-block-four : (library : Library) → GrantsBlockFour library → RoomForAlloc library alloc → Known library → Apart library → ⊥
 unfolding enter
 grants-block-four library four room known apart =
@@ -87,7 +91,13 @@ grants-block-four library four room known apart =
     let done : Done (second .answer) = room 16 _ (o .once) 2 (omega arith) .done .1 (λ short. omega (arith, is, small)) in
     let same : told (second .answer) .block ≡ 4 = four 2 _ done in
     let twice = rw done at (next (o .once) (call (alloc 2)) tt) in
-    omega (arith, is, same, apart 16 _ twice [] [] [] (told (second .answer)) (told (first .answer)) (rw (le-leb (told (second .answer) .block) (told (first .answer) .block) (omega arith))))
+    omega (
+      arith,
+      is,
+      same,
+      apart 16 _ twice [] [] [] (told (second .answer)) (told (first .answer))
+          (rw (le-leb (told (second .answer) .block) (told (first .answer) .block) (omega arith))),
+    )
 
 -- ---- one that writes nothing
 
@@ -103,7 +113,12 @@ writes-nothing library nothing room inside apart =
     let a = library start (replicate 6 0) .words in
     let e = told (library (alloc 2) a .answer) in
     let z : (2 ≤ begins e) × (ends e ≤ 6) = inside 6 _ (o .once) e (inl refl) in
-    omega (arith, z, apart 6 _ (next (o .once) (call (alloc 2)) tt) [] [] [] e e (rw (nothing (alloc 2) a, o .done, le-leb (e .block) (e .block) (omega arith))))
+    omega (
+      arith,
+      z,
+      apart 6 _ (next (o .once) (call (alloc 2)) tt) [] [] [] e e
+          (rw (nothing (alloc 2) a, o .done, le-leb (e .block) (e .block) (omega arith))),
+    )
 
 -- it answers as ours does
 abbrev pub answersAlone : Library
@@ -125,7 +140,8 @@ pub made-up-total : (total : ℕ → ℕ) (library : Library) → MadeUpTotal to
 made-up-total total library made lengths room sums =
     let o = in-six library room in
     let before : total 6 ≡ 4 = rw (← lengths 6 _ (o .started), ← made) (omega (arith, sums 6 _ (o .started))) in
-    let after : total 6 + (told (library (alloc 2) (library start (replicate 6 0) .words) .answer) .granted + 2) ≡ 4 = rw (← lengths 6 _ (o .once), ← made) (omega (arith, sums 6 _ (o .once))) in
+    let after : total 6 + (told (library (alloc 2) (library start (replicate 6 0) .words) .answer) .granted + 2) ≡ 4 =
+    rw (← lengths 6 _ (o .once), ← made) (omega (arith, sums 6 _ (o .once))) in
     omega arith
 
 -- ---- one that reports no live blocks
@@ -160,7 +176,14 @@ GrantsBeyond library = (w : ℕ) (a : List ℕ) → Done (library (alloc w) a .a
 pub grants-beyond : (library : Library) → GrantsBeyond library → Lengths library → RoomForAlloc library alloc → Known library → Inside library → ⊥
 grants-beyond library beyond lengths room known inside =
     let o = in-six library room in
-    omega (arith, beyond 2 _ (o .done), lengths 6 _ (o .started), known 6 _ (o .started) .alloc-grants 2 (o .done), inside 6 _ (o .once) _ (inl refl) .1)
+    omega (
+      arith,
+      beyond 2 _ (o .done),
+      lengths 6 _ (o .started),
+      known 6 _ (o .started) .alloc-grants 2 (o .done),
+      inside 6 _ (o .once) _
+          (inl refl) .1,
+    )
 
 -- ---- one that grants 2 words whatever is asked
 
@@ -178,7 +201,8 @@ grants-two-words library two room known =
 
 -- an alloc that is done answers all words but the control words and a header, whatever is asked
 abbrev pub GrantsEverything : Library → Type 0
-GrantsEverything library = (w : ℕ) (a : List ℕ) → Done (library (alloc w) a .answer) → told (library (alloc w) a .answer) .granted ≡ greatestRequest (length a)
+GrantsEverything library = (w : ℕ) (a : List ℕ) → Done (library (alloc w) a .answer)
+    → told (library (alloc w) a .answer) .granted ≡ greatestRequest (length a)
 
 -- if it keeps the room rule and its arena's length, it grants too much: of 16 words, a request for 2 has 12
 pub grants-everything : (library : Library) → GrantsEverything library → Lengths library → RoomForAlloc library alloc → Known library → ⊥
@@ -202,7 +226,8 @@ never-frees library refuses room known = refuses _ _ (known 6 _ (in-six library 
 abbrev pub NeverRegrants : Library → Type 0
 NeverRegrants library = (b w : ℕ) (a : List ℕ) → Done (library (realloc b w) a .answer) → ⊥
 
--- if it keeps the room rule of alloc and grants enough, it fails that of realloc: a block has room for the words that it has
+-- if it keeps the room rule of alloc and grants enough, it fails that of realloc: a block has room for the words that
+-- it has
 pub never-regrants : (library : Library) → NeverRegrants library → RoomForAlloc library alloc → Known library → RoomForRealloc library realloc → ⊥
 never-regrants library refuses room known regrants =
     refuses _ 2 _ (regrants 6 _ (in-six library room .once) [] [] _ refl 2 (omega arith) .done .1 (λ short. own-room library room known (short .1)))
@@ -217,9 +242,11 @@ NeverResizes library = (b w : ℕ) (a : List ℕ) → Done (library (resize b w)
 abbrev pub ResizeMoves : Library → Type 0
 ResizeMoves library = (b w : ℕ) (a : List ℕ) → Done (library (resize b w) a .answer) → told (library (resize b w) a .answer) .block ≢ b
 
--- of a library that keeps the room rules of alloc and resize and grants enough, a resize is done: a block has room for the words that it has
+-- of a library that keeps the room rules of alloc and resize and grants enough, a resize is done: a block has room for
+-- the words that it has
 a-resize : (library : Library) → RoomForAlloc library alloc → Known library → RoomForResize library resize
-    → let a = library start (replicate 6 0) .words in let first = library (alloc 2) a in Done (library (resize (told (first .answer) .block) 2) (first .words) .answer)
+    → let a = library start (replicate 6 0) .words in let first = library (alloc 2) a in
+    Done (library (resize (told (first .answer) .block) 2) (first .words) .answer)
 a-resize library room known resizes = resizes 6 _ (in-six library room .once) [] [] _ refl 2 (omega arith) .done .1 (own-room library room known)
 
 -- so it cannot be one that never resizes
@@ -250,7 +277,8 @@ resizeReallocates = withResize (λ b w a. ours (realloc b w) a)
 
 -- a block is known to stay: of 16 words, block 10 has no room above it, and the resize answers block 4
 pub resize-reallocates : Known resizeReallocates → ⊥
-unfolding startOn allocBy regrantBy arenaGate requestGate sound chunksOf walked walkFrom walk meet lowest joined copied written write header enter strike
+unfolding startOn allocBy regrantBy arenaGate requestGate sound chunksOf walked walkFrom walk meet lowest joined copied written write header enter
+    strike
 resize-reallocates known =
     let held : Run resizeReallocates 16 _ = next (next (begun (replicate 16 0) refl refl) (call (alloc 2)) tt) (call (alloc 2)) tt in
     let stays : _≡_ {A = ℕ} 4 10 = known 16 _ held .resize-stays 10 4 refl in
@@ -268,10 +296,14 @@ losesTwoWords =
 
 -- beside a gap a block shrinks to its need: of 16 words, block 4 has 6 and a gap above it, and is asked for 4
 pub loses-two-words : ShrinksToNeed losesTwoWords resize → ⊥
-unfolding startOn allocBy freeOn regrantBy sizeOn arenaGate requestGate sound chunksOf walked walkFrom walk meet lowest joined copied written write header enter strike
+unfolding startOn allocBy freeOn regrantBy sizeOn arenaGate requestGate sound chunksOf walked walkFrom walk meet lowest joined copied written write
+    header enter strike
 loses-two-words shrinks =
-    let held : Run losesTwoWords 16 _ = next (next (next (begun (replicate 16 0) refl refl) (call (alloc 4)) tt) (call (alloc 4)) tt) (call (free 12)) tt in
-    let granted : _≡_ {A = ℕ} 6 4 = ap (λ (answer : Answer). told answer .granted) (shrinks 16 _ held [] [] (record { block = 4; granted = 6 }) refl 4 (omega arith) (omega arith) (omega arith)) in
+    let held : Run losesTwoWords 16 _ =
+    next (next (next (begun (replicate 16 0) refl refl) (call (alloc 4)) tt) (call (alloc 4)) tt) (call (free 12)) tt in
+    let granted : _≡_ {A = ℕ} 6 4 =
+    ap (λ (answer : Answer). told answer .granted)
+    (shrinks 16 _ held [] [] (record { block = 4; granted = 6 }) refl 4 (omega arith) (omega arith) (omega arith)) in
     omega arith
 
 -- ---- one that never relocates, and one that leaves the block where it is
@@ -284,9 +316,11 @@ NeverRelocates library = (b w : ℕ) (a : List ℕ) → Done (library (relocate 
 abbrev pub RelocateStays : Library → Type 0
 RelocateStays library = (b w : ℕ) (a : List ℕ) → Done (library (relocate b w) a .answer) → told (library (relocate b w) a .answer) .block ≡ b
 
--- of a library that keeps the room rules of alloc and relocate and grants just the need, a relocate is done: of 16 words, the first block leaves room for a second
+-- of a library that keeps the room rules of alloc and relocate and grants just the need, a relocate is done: of 16
+-- words, the first block leaves room for a second
 a-relocate : (library : Library) → RoomForAlloc library alloc → Known library → RoomForRelocate library relocate
-    → let a = library start (replicate 16 0) .words in let first = library (alloc 2) a in Done (library (relocate (told (first .answer) .block) 2) (first .words) .answer)
+    → let a = library start (replicate 16 0) .words in let first = library (alloc 2) a in
+    Done (library (relocate (told (first .answer) .block) 2) (first .words) .answer)
 a-relocate library room known relocates =
     let o = in-sixteen library room in
     let e = told (library (alloc 2) (library start (replicate 16 0) .words) .answer) in
@@ -321,7 +355,8 @@ copiesNothing c a = record { answer = ours c a .answer; words = written (chunksO
 
 -- a block does not keep its words: of 16 words, block 10 holds a 5 and is moved to block 4
 pub copies-nothing : Keeps copiesNothing → ⊥
-unfolding startOn allocBy regrantBy arenaGate requestGate sound chunksOf walked walkFrom walk meet lowest joined copied written write header enter strike
+unfolding startOn allocBy regrantBy arenaGate requestGate sound chunksOf walked walkFrom walk meet lowest joined copied written write header enter
+    strike
 copies-nothing keeps =
     let held : Run copiesNothing 16 _ = next (next (begun (replicate 16 0) refl refl) (call (alloc 2)) tt) (call (alloc 2)) tt in
     let stored : Run copiesNothing 16 _ = next held (store 10 0 5) ((record { block = 10; granted = 2 }, inl refl, refl, omega arith), omega arith) in
@@ -329,7 +364,8 @@ copies-nothing keeps =
     (λ ended. ⊎-elim (λ is. clash cc) (λ is. clash cc) (ended .1))
     (λ goes.
     let moved : goes .later .block ≡ 4 = goes .number-is in
-    let long : 1 ≤ goes .later .granted = ⊎-elim (λ is. rw (← is) (omega arith)) (⊎-elim (λ is. rw (← is) (omega arith)) (λ none. absurd none)) (goes .listed) in
+    let long : 1 ≤ goes .later .granted =
+    ⊎-elim (λ is. rw (← is) (omega arith)) (⊎-elim (λ is. rw (← is) (omega arith)) (λ none. absurd none)) (goes .listed) in
     let lost : _≡_ {A = ℕ} 0 5 = rw moved at (goes .words-kept 0 (omega arith)) in
     omega arith)
     (keeps 16 _ stored (call (realloc 10 4)) tt (record { block = 10; granted = 2 }) (inl refl))
@@ -353,6 +389,7 @@ forgets library zeroes room known lasts =
     let done : Done (library (size (e .block)) w .answer) = rw (known 6 _ stored .size-listed e (inl refl)) in
     let last = still (just (o .once) (e .block) 0 5 held) (call (size (e .block))) tt
     (λ ended. ⊎-elim (λ is. clash cc) (λ is. clash cc) (ended .1)) (λ cut. let is = cut .1 in clash cc) (λ v is. clash cc) in
-    let zero : getD (library (size (e .block)) w .words) (e .block + 0) 0 ≡ 0 = ap (λ k. getD (library (size (e .block)) w .words) k 0) (add-zero (e .block)) ∙ zeroes (e .block) w done in
+    let zero : getD (library (size (e .block)) w .words) (e .block + 0) 0 ≡ 0 =
+    ap (λ k. getD (library (size (e .block)) w .words) k 0) (add-zero (e .block)) ∙ zeroes (e .block) w done in
     let five : getD (library (size (e .block)) w .words) (e .block + 0) 0 ≡ 5 = rw done at (lasts 6 _ _ 0 5 last) in
     omega arith

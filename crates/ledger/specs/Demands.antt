@@ -1,4 +1,5 @@
--- Demand 3, of a library: what its runs and their ledgers show. `n` is the arena's number of words, `w` how many words are asked for.
+-- Demand 3, of a library: what its runs and their ledgers show. `n` is the arena's number of words, `w` how many words
+-- are asked for.
 use Prim.Native.Nat.{ℕ, _+_, _-_, _≤_, _<_, min}
 use mathlib.Core.Path.{_≡_}
 use mathlib.Core.Logic.{_≢_, _↔_, _⊎_}
@@ -9,14 +10,15 @@ use Rattle.layout.specs.Numbers.{controlWords, headerWords, leastSplit, lawful,
 use Rattle.layout.specs.Reasons.{number}
 use Rattle.layout.specs.declared.Reason.{Reason}
 use Rattle.layout.specs.declared.Reason.the-variants.{Length, Damaged, NotABlock, NoRoom, WouldMove}
-use Rattle.arena.specs.Answers.{Answer, success}
+use Rattle.rules.specs.Answers.{Answer, success}
 use Rattle.ledger.specs.Events.{Call, start, alloc, free, resize, relocate, realloc, size, view, report, Event, Library}
 use Rattle.ledger.specs.Ledger.{Entry, Ledger, told, Done, Listed, Unlisted, begins, ends, heldWords}
 use Rattle.ledger.specs.Gaps.{gapFrom, gaps, EachShorter, RoomShorter}
 use Rattle.ledger.specs.Runs.{State, Allowed, after, Run}
 use Rattle.ledger.specs.Holders.{wordAfter, numberAfter, Ended, StoredLast}
 
--- a request to which neither reason 4 nor reason 5 applies; in a run 1 and 2 never apply, nor 3 to a block of the ledger
+-- a request to which neither reason 4 nor reason 5 applies; in a run 1 and 2 never apply, nor 3 to a block of the
+-- ledger
 abbrev pub LawfulRequest : ℕ → ℕ → Type 0
 LawfulRequest n w = (1 ≤ w) × (w ≤ greatestRequest n)
 
@@ -55,7 +57,8 @@ module _ (library : Library) where
   abbrev pub Inside : Type 0
   Inside = (n : ℕ) (s : State) → Run library n s → (e : Entry) → Listed (s .ledger) e → (controlWords ≤ begins e) × (ends e ≤ n)
 
-  -- the block of entry `e` goes on after an event: under the number that it has then, and with its words, as many as old and new length share; of these a store changes the one that it stores to
+  -- the block of entry `e` goes on after an event: under the number that it has then, and with its words, as many as
+  -- old and new length share; of these a store changes the one that it stores to
   pub record GoesOn (s : State) (event : Event) (e : Entry) : Type 0 where
     pub later : Entry
     pub listed : Listed (after library event s .ledger) later
@@ -63,7 +66,8 @@ module _ (library : Library) where
     pub words-kept : (i : ℕ) → i < min (e .granted) (later .granted)
         → getD (after library event s .words) (later .block + i) 0 ≡ wordAfter event (e .block) i (getD (s .words) (e .block + i) 0)
 
-  -- "and keep their holders' words, as many as old and new length share": each block of the ledger goes on, unless the event ends it
+  -- "and keep their holders' words, as many as old and new length share": each block of the ledger goes on, unless the
+  -- event ends it
   abbrev pub Keeps : Type 0
   Keeps =
       (n : ℕ) (s : State) → Run library n s → (event : Event) → Allowed event (s .ledger) → (e : Entry) → Listed (s .ledger) e
@@ -73,23 +77,28 @@ module _ (library : Library) where
   abbrev pub Lasts : Type 0
   Lasts = (n : ℕ) (s : State) (b i v : ℕ) → StoredLast library n s b i v → getD (s .words) (b + i) 0 ≡ v
 
-  -- "The reported free words, plus each ledger block's granted words and its two header words, make the arena less its two control words."
+  -- "The reported free words, plus each ledger block's granted words and its two header words, make the arena less its
+  -- two control words."
   abbrev pub Sums : Type 0
   Sums = (n : ℕ) (s : State) → Run library n s → freeWordsIn (library report (s .words) .answer) + heldWords (s .ledger) ≡ n - controlWords
 
-  -- "A lawful alloc is refused for want of room exactly when every gap left by ledger blocks and their headers is shorter than its need;"
+  -- "A lawful alloc is refused for want of room exactly when every gap left by ledger blocks and their headers is
+  -- shorter than its need;"
   abbrev pub RoomForAlloc : (ℕ → Call) → Type 0
   RoomForAlloc allocs =
       (n : ℕ) (s : State) → Run library n s → (w : ℕ) → LawfulRequest n w
       → RefusedWhen NoRoom (EachShorter (need w) (gaps n (s .ledger))) (library (allocs w) (s .words) .answer)
 
-  -- "a lawful realloc of a ledger block, exactly when that block with its header, joined with the gap right above it, is too short as well."
+  -- "a lawful realloc of a ledger block, exactly when that block with its header, joined with the gap right above it,
+  -- is too short as well."
   abbrev pub RoomForRealloc : (ℕ → ℕ → Call) → Type 0
   RoomForRealloc reallocs =
       (n : ℕ) (s : State) → Run library n s → (below above : Ledger) (e : Entry) → s .ledger ≡ below ++ e ∷ above → (w : ℕ) → LawfulRequest n w
-      → RefusedWhen NoRoom (EachShorter (need w) (gaps n (s .ledger)) × RoomShorter (need w) n e above) (library (reallocs (e .block) w) (s .words) .answer)
+      → RefusedWhen NoRoom (EachShorter (need w) (gaps n (s .ledger)) × RoomShorter (need w) n e above)
+      (library (reallocs (e .block) w) (s .words) .answer)
 
-  -- item 1: a lawful resize of a ledger block is refused with WouldMove exactly when that block with its header, joined with the gap right above it, is too short
+  -- item 1: a lawful resize of a ledger block is refused with WouldMove exactly when that block with its header, joined
+  -- with the gap right above it, is too short
   abbrev pub RoomForResize : (ℕ → ℕ → Call) → Type 0
   RoomForResize resizes =
       (n : ℕ) (s : State) → Run library n s → (below above : Ledger) (e : Entry) → s .ledger ≡ below ++ e ∷ above → (w : ℕ) → LawfulRequest n w
@@ -101,7 +110,8 @@ module _ (library : Library) where
       (n : ℕ) (s : State) → Run library n s → (e : Entry) → Listed (s .ledger) e → (w : ℕ) → LawfulRequest n w
       → RefusedWhen NoRoom (EachShorter (need w) (gaps n (s .ledger))) (library (relocates (e .block) w) (s .words) .answer)
 
-  -- item 3: a block with a gap right above it, whose own words and header have the need of a lawful request, stays and is granted just the need: in the ledger all words over fall to the gap
+  -- item 3: a block with a gap right above it, whose own words and header have the need of a lawful request, stays and
+  -- is granted just the need: in the ledger all words over fall to the gap
   abbrev pub ShrinksToNeed : (ℕ → ℕ → Call) → Type 0
   ShrinksToNeed resizes =
       (n : ℕ) (s : State) → Run library n s → (below above : Ledger) (e : Entry) → s .ledger ≡ below ++ e ∷ above → (w : ℕ) → LawfulRequest n w
@@ -117,7 +127,8 @@ module _ (library : Library) where
   GrantsNeed calls a =
       (w : ℕ) → Done (library (calls w) a .answer) → HasNeed w (headerWords + told (library (calls w) a .answer) .granted)
 
-  -- what the answers tell of an arena in a run: which blocks there are, how long they are, what they hold, whether they keep their numbers, and which reasons are never given
+  -- what the answers tell of an arena in a run: which blocks there are, how long they are, what they hold, whether they
+  -- keep their numbers, and which reasons are never given
   pub record Tells (a : List ℕ) (ledger : Ledger) : Type 0 where
     pub never-length : (c : Call) → library c a .answer .code ≢ number Length
     pub never-damaged : (c : Call) → library c a .answer .code ≢ number Damaged
@@ -128,7 +139,8 @@ module _ (library : Library) where
     pub resize-grants : (b : ℕ) → GrantsNeed (resize b) a
     pub resize-stays : (b w : ℕ) → Done (library (resize b w) a .answer) → told (library (resize b w) a .answer) .block ≡ b
     pub resize-never-full : (b w : ℕ) → library (resize b w) a .answer .code ≢ number NoRoom
-    pub only-resize-would-move : (c : Call) → library c a .answer .code ≡ number WouldMove → (b : ℕ) × (w : ℕ) × (c ≡ resize b w) × LawfulRequest (length a) w
+    pub only-resize-would-move : (c : Call) → library c a .answer .code ≡ number WouldMove
+        → (b : ℕ) × (w : ℕ) × (c ≡ resize b w) × LawfulRequest (length a) w
     pub relocate-known : (w : ℕ) → NeedsBlock (λ b. relocate b w) a ledger
     pub relocate-grants : (b : ℕ) → GrantsNeed (relocate b) a
     pub relocate-moves : (b w : ℕ) → Done (library (relocate b w) a .answer) → told (library (relocate b w) a .answer) .block ≢ b

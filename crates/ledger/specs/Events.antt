@@ -2,8 +2,8 @@
 use Prim.Native.Nat.{ℕ, _+_}
 use mathlib.Core.List.{List, []}
 use lib.ListN.{set}
-use Rattle.arena.specs.Answers.{Outcome, success}
-use Rattle.arena.specs.Calls.{startOn, allocOn, freeOn, resizeOn, relocateOn, reallocOn, sizeOn, viewOn, reportOn}
+use Rattle.rules.specs.Answers.{Outcome, success}
+use Rattle.rules.specs.Calls.{startOn, allocOn, freeOn, resizeOn, relocateOn, reallocOn, sizeOn, viewOn, reportOn}
 
 -- `w` is how many words are asked for, `b` a block's number
 pub data Call : Type 0 where

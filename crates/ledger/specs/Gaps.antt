@@ -1,4 +1,5 @@
--- The gaps that ledger blocks and their headers leave in an arena of `n` words, computed from the ledger and `n` alone. Where two blocks meet, or the last ends at `n`, the gap has 0 words.
+-- The gaps that ledger blocks and their headers leave in an arena of `n` words, computed from the ledger and `n` alone.
+-- Where two blocks meet, or the last ends at `n`, the gap has 0 words.
 use Prim.Native.Nat.{ℕ, _+_, _-_, _<_}
 use mathlib.Core.List.{List, [], _∷_}
 use Rattle.layout.specs.Numbers.{controlWords, headerWords}
@@ -22,6 +23,7 @@ abbrev pub EachShorter : ℕ → List ℕ → Type 0
 EachShorter words [] = Unit {0}
 EachShorter words (g ∷ gs) = (g < words) × EachShorter words gs
 
--- a block with its header, joined with the gap right above it and below the blocks `above`, has fewer than so many words
+-- a block with its header, joined with the gap right above it and below the blocks `above`, has fewer than so many
+-- words
 abbrev pub RoomShorter : ℕ → ℕ → Entry → Ledger → Type 0
 RoomShorter words n e above = headerWords + e .granted + gapFrom n (ends e) above < words

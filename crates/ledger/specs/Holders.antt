@@ -1,10 +1,11 @@
--- What a holder knows from events and answers alone: the number under which a block goes on, when it ends or is cut, and what was stored last.
+-- What a holder knows from events and answers alone: the number under which a block goes on, when it ends or is cut,
+-- and what was stored last.
 use Prim.Native.Nat.{ℕ, _≤_}
 use mathlib.Core.Path.{_≡_}
 use mathlib.Core.Logic.{_≢_, _⊎_}
 use mathlib.Core.Bool.{cond, _&&_}
 use lib.Dec.{eqb}
-use Rattle.arena.specs.Answers.{Answer}
+use Rattle.rules.specs.Answers.{Answer}
 use Rattle.ledger.specs.Events.{Event, call, store, Library}
 use Rattle.ledger.specs.Ledger.{Effect, empties, grants, frees, regrants, spares, effect, told, ifDone, Done}
 use Rattle.ledger.specs.Runs.{State, Allowed, answerTo, after, Run}
@@ -35,7 +36,8 @@ module _ (library : Library) where
   abbrev pub Cut : Event → State → ℕ → ℕ → Type 0
   Cut event s b i = Done (answerTo library event s) × (effect event ≡ regrants b) × (told (answerTo library event s) .granted ≤ i)
 
-  -- in a run up to a state, `v` is what was stored last at place `i` of the block that is now number `b`: it was stored just now, or it was so before an event that neither ends the block, nor cuts the place off, nor stores to the place
+  -- in a run up to a state, `v` is what was stored last at place `i` of the block that is now number `b`: it was stored
+  -- just now, or it was so before an event that neither ends the block, nor cuts the place off, nor stores to the place
   pub data StoredLast (n : ℕ) : State → ℕ → ℕ → ℕ → Type 0 where
     just : {s : State} → Run library n s → (b i v : ℕ) → Allowed (store b i v) (s .ledger) → StoredLast n (after library (store b i v) s) b i v
     still : {s : State} {b i v : ℕ} → StoredLast n s b i v → (event : Event) → Allowed event (s .ledger)

@@ -1,4 +1,5 @@
--- The ledger: the blocks that are held, written down from events and their answers alone. Whoever keeps it is never shown the arena.
+-- The ledger: the blocks that are held, written down from events and their answers alone. Whoever keeps it is never
+-- shown the arena.
 use Prim.Native.Nat.{ℕ, _+_, _-_, _<_}
 use mathlib.Core.Path.{_≡_}
 use mathlib.Core.Logic.{_⊎_, _≢_}
@@ -7,7 +8,7 @@ use mathlib.Core.List.{List, [], _∷_}
 use lib.ListN.{getD}
 use lib.Dec.{leb, eqb}
 use Rattle.layout.specs.Numbers.{headerWords}
-use Rattle.arena.specs.Answers.{Answer}
+use Rattle.rules.specs.Answers.{Answer}
 use Rattle.ledger.specs.Events.{start, alloc, free, resize, relocate, realloc, size, view, report, Event, call, store}
 
 -- a block's number and its granted words
@@ -90,7 +91,8 @@ Unlisted ledger b = (e : Entry) → Listed ledger e → e .block ≢ b
 abbrev pub Held : Ledger → ℕ → ℕ → Type 0
 Held ledger b i = (e : Entry) × Listed ledger e × (e .block ≡ b) × (i < e .granted)
 
--- the word where a block's header begins (0 for a number below 2, which no block of ours has), and the first word after its granted words
+-- the word where a block's header begins (0 for a number below 2, which no block of ours has), and the first word after
+-- its granted words
 abbrev pub begins : Entry → ℕ
 begins e = e .block - headerWords
 

@@ -5,7 +5,7 @@ use mathlib.Core.Bool.{true}
 use mathlib.Core.List.{List, []}
 use lib.ListN.{length}
 use Rattle.layout.specs.Numbers.{wordValues, lawful}
-use Rattle.arena.specs.Answers.{Answer}
+use Rattle.rules.specs.Answers.{Answer}
 use Rattle.ledger.specs.Events.{start, Event, call, store, Library, happens}
 use Rattle.ledger.specs.Ledger.{Ledger, ledgerAfter, Held}
 
@@ -13,7 +13,8 @@ pub record State : Type 0 where
   pub words : List ℕ
   pub ledger : Ledger
 
--- every call is allowed, also one that will be refused; a holder stores only to one of the granted words of a block that the ledger has, and only a value that fits a word
+-- every call is allowed, also one that will be refused; a holder stores only to one of the granted words of a block
+-- that the ledger has, and only a value that fits a word
 abbrev pub Allowed : Event → Ledger → Type 0
 Allowed (call c) ledger = Unit {0}
 Allowed (store b i v) ledger = Held ledger b i × (v < wordValues)

@@ -4,17 +4,18 @@ use mathlib.Core.Bool.{Bool, true, false}
 use mathlib.Core.List.{List, [], _∷_, _++_, append-nil, append-assoc, flatten}
 use Prim.Native.Nat.{ℕ}
 use lib.Dec.{eqb}
-use Rattle.lines.specs.Digits.{lineEnd}
+use Rattle.digits.specs.Digits.{lineEnd}
+use Rattle.requests.specs.declared.Place.{Place}
 use Rattle.lines.specs.Boards.{Board}
 use Rattle.lines.specs.Pieces.{Hearing, hears, goesOn, heardAfter}
-use Rattle.lines.specs.declared.Place.{Place}
 
 -- a hearing with earlier replies before its own
 abbrev pub behind : List ℕ → Hearing → Hearing
 behind replies hearing = record { replies = replies ++ hearing .replies; place = hearing .place; board = hearing .board }
 
 -- earlier replies stay before all that follows
-pub behind-goes-on : (replies : List ℕ) (hearing : Hearing) (bytes : List ℕ) → goesOn (behind replies hearing) bytes ≡ behind replies (goesOn hearing bytes)
+pub behind-goes-on : (replies : List ℕ) (hearing : Hearing) (bytes : List ℕ)
+    → goesOn (behind replies hearing) bytes ≡ behind replies (goesOn hearing bytes)
 behind-goes-on replies hearing bytes = rw append-assoc
 
 -- the first byte is heard, and then the others
@@ -49,5 +50,6 @@ heard-joined hearing [] = rw append-nil
 heard-joined hearing (piece ∷ pieces) = heard-joined (goesOn hearing piece) pieces ∙ goes-on-append hearing piece (flatten pieces)
 
 -- two ways to cut one text are heard alike
-pub cut-anywhere : (hearing : Hearing) (pieces others : List (List ℕ)) → flatten pieces ≡ flatten others → heardAfter hearing pieces ≡ heardAfter hearing others
+pub cut-anywhere : (hearing : Hearing) (pieces others : List (List ℕ)) → flatten pieces ≡ flatten others
+    → heardAfter hearing pieces ≡ heardAfter hearing others
 cut-anywhere hearing pieces others same = heard-joined hearing pieces ∙ rw same (sym (heard-joined hearing others))

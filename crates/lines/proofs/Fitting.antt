@@ -14,16 +14,17 @@ use Rattle.layout.specs.declared.Reason.the-variants.{Length, Damaged, NotABloc
 use Rattle.layout.proofs.Bounds.{AllBelow}
 use Rattle.layout.proofs.Holds.{total-append}
 use Rattle.layout.proofs.Round.{sound-chunks}
-use Rattle.arena.specs.Answers.{Outcome}
-use Rattle.arena.specs.Inside.Rooms.{roomWords, roomAfter}
-use Rattle.arena.specs.Calls.{startOn, allocOn, freeOn, reallocOn, reportOn}
-use Rattle.arena.proofs.Moving.{cut-numbers}
-use Rattle.arena.proofs.Tallying.{counts-small}
-use Rattle.arena.proofs.Cases.{Case, refuses, does, Starts, starts, start-case, Allots, allots, alloc-case, Frees, frees, free-case, Reports, reports, report-case}
-use Rattle.arena.proofs.Room.{roomTail, room-split, room-words}
-use Rattle.arena.proofs.Staying.{kept-numbers}
-use Rattle.arena.proofs.Regranting.{resizes, moves, Regrants, in-place, elsewhere, realloc-case}
-use Rattle.lines.specs.Digits.{twoDigitValues, fourDigitValues}
+use Rattle.rules.specs.Answers.{Outcome}
+use Rattle.rules.specs.Rooms.{roomWords, roomAfter}
+use Rattle.rules.specs.Calls.{startOn, allocOn, freeOn, reallocOn, reportOn}
+use Rattle.rules.proofs.Remainder.{cut-numbers}
+use Rattle.rules.proofs.ReportCounts.{counts-small}
+use Rattle.rules.proofs.CallCases.{Case, refuses, does, Restarts, restarts, start-case, Allots, allots, alloc-case, Frees, frees, free-case, Reports}
+use Rattle.rules.proofs.CallCases.{reports, report-case}
+use Rattle.rules.proofs.Rooms.{roomTail, room-split, room-words}
+use Rattle.rules.proofs.Staying.{kept-numbers}
+use Rattle.rules.proofs.RegrantCases.{resizes, moves, Regrants, in-place, elsewhere, realloc-case}
+use Rattle.digits.specs.Digits.{twoDigitValues, fourDigitValues}
 
 -- ---- the code
 
@@ -62,8 +63,8 @@ case-fits f (does {values} {after} d) = f values after d
 
 module _ (a : List ℕ) where
   -- of the words of some chunks, `old`, so many are granted, header counted: that gives two fields that fit
-  granted-fits : sound a ≡ true → (pre old post : List Chunk) (words got block : ℕ) → chunksOf a ≡ pre ++ (old ++ post) → words ≡ total old → got ≤ words
-      → block ≤ firstChunk + total pre + words + headerWords → Fits 2 (block ∷ (got - headerWords) ∷ [])
+  granted-fits : sound a ≡ true → (pre old post : List Chunk) (words got block : ℕ) → chunksOf a ≡ pre ++ (old ++ post)
+      → words ≡ total old → got ≤ words → block ≤ firstChunk + total pre + words + headerWords → Fits 2 (block ∷ (got - headerWords) ∷ [])
   granted-fits e pre old post words got block same all within near =
       let law = sound-chunks a e .law in
       omega (arith, ap total same, total-append pre (old ++ post), total-append old post)
@@ -72,16 +73,16 @@ module _ (a : List ℕ) where
   pub start-fits : Fits 0 (startOn a .answer .values)
   start-fits = case-fits go (start-case a)
     where
-      go : (values after : List ℕ) → Starts a values after → Fits 0 values
-      go values after (starts l) = record { count = refl; small = tt }
+      go : (values after : List ℕ) → Restarts a values after → Fits 0 values
+      go values after (restarts l) = record { count = refl; small = tt }
 
   -- alloc answers a block and its granted words, and both fit
   pub alloc-fits : (n : ℕ) → Fits 2 (allocOn a n .answer .values)
   alloc-fits n = case-fits go (alloc-case a n)
     where
       go : (values after : List ℕ) → Allots a n values after → Fits 2 values
-      go values after (allots e r pre s post is) =
-          granted-fits e pre (free s ∷ []) post s _ _ (is .same) (omega arith) (cut-numbers (need n) s (is .enough) .within) (omega arith)
+      go values after (allots e r pre s post (same, enough)) =
+          granted-fits e pre (free s ∷ []) post s _ _ same (omega arith) (cut-numbers (need n) s enough .within) (omega arith)
 
   -- free answers no field
   pub free-fits : (b : ℕ) → Fits 0 (freeOn a b .answer .values)
@@ -96,10 +97,10 @@ module _ (a : List ℕ) where
     where
       go : (values after : List ℕ) → Regrants a b n values after → Fits 2 values
       go values after (in-place (resizes e r pre s post is keep k)) =
-          granted-fits e pre (live s ∷ roomTail post) (roomAfter post) (roomWords s post) keep b (room-split pre s post (is .same)) (room-words s post)
-          (kept-numbers (need n) s keep post k .within) (omega (arith, is .number-is))
+          granted-fits e pre (live s ∷ roomTail post) (roomAfter post) (roomWords s post) keep b
+          (room-split pre s post (is .same)) (room-words s post) (kept-numbers (need n) s keep post k .within) (omega (arith, is .number-is))
       go values after (elsewhere (moves e r pre s post is before g behind gap block at-is ks same count fewer)) =
-          granted-fits e before (free g ∷ []) behind g _ block (gap .same) (omega arith) (cut-numbers (need n) g (gap .enough) .within) (omega arith)
+          granted-fits e before (free g ∷ []) behind g _ block (gap .0) (omega arith) (cut-numbers (need n) g (gap .1) .within) (omega arith)
 
   -- report answers four numbers, and all fit
   pub report-fits : Fits 4 (reportOn a .answer .values)

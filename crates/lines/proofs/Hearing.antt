@@ -8,14 +8,15 @@ use lib.ListN.{length, take, drop, length-append, length-drop}
 use lib.Seq.{sets-eq, take-all}
 use lib.Dec.{leb, eqb}
 use borrow.Author.Tests.{ne-eqb, leb-true, leb-false}
-use Rattle.lines.specs.Digits.{lineEnd}
+use Rattle.digits.specs.Digits.{lineEnd}
+use Rattle.digits.specs.Putting.{Puts}
+use Rattle.digits.proofs.Putting.{puts-then}
+use Rattle.requests.specs.LinePlaces.{atStart, onward, requestAt}
+use Rattle.requests.specs.declared.Place.{Place}
 use Rattle.lines.specs.Boards.{Board, lending, longestReply, replied}
-use Rattle.lines.specs.Places.{atStart, onward, requestAt}
 use Rattle.lines.specs.Pieces.{Hearing, hears, ending, answerable, HearsAll}
-use Rattle.lines.specs.Inside.Answering.{Puts, Answers, HearsByte}
-use Rattle.lines.specs.declared.Place.{Place}
+use Rattle.lines.specs.Answering.{Answers, HearsByte}
 use Rattle.lines.specs.declared.Heard.{Heard}
-use Rattle.lines.proofs.Putting.{puts-then}
 use Rattle.lines.proofs.Cutting.{hears-append}
 
 -- ---- one byte
@@ -33,7 +34,8 @@ end-heard place on words lent at room end text answers =
     }
 
 -- any other byte: the line goes on
-hears-more : (place : Place) (on : Board) (b : ℕ) → (b ≡ lineEnd → ⊥) → hears place on (b ∷ []) ≡ record { replies = []; place = onward place b; board = on }
+hears-more : (place : Place) (on : Board) (b : ℕ) → (b ≡ lineEnd → ⊥)
+    → hears place on (b ∷ []) ≡ record { replies = []; place = onward place b; board = on }
 unfolding hears
 hears-more place on b other = rw (ne-eqb b lineEnd other, hears)
 
@@ -50,7 +52,8 @@ more-heard place words lent b at room other fits =
 
 -- ---- a run of bytes
 
--- these bytes have been heard: the reader's place, the words, and the replies in the lent text; none is longer than the longest
+-- these bytes have been heard: the reader's place, the words, and the replies in the lent text; none is longer than the
+-- longest
 pub record HeardSoFar (from : Place) (on : Board) (bytes room : List ℕ) (place : Place) (lent written : ℕ) (words text : List ℕ) : Type 0 where
   pub places : place ≡ hears from on bytes .place
   pub lends : lent ≡ hears from on bytes .board .lent
@@ -59,13 +62,15 @@ pub record HeardSoFar (from : Place) (on : Board) (bytes room : List ℕ) (place
   pub few : written ≤ length bytes * longestReply
   pub lendable : lent ≤ length words
 
-pub none-heard : (from : Place) (words room : List ℕ) (lent : ℕ) → lent ≤ length words → HeardSoFar from (lending words lent) [] room from lent 0 words room
+pub none-heard : (from : Place) (words room : List ℕ) (lent : ℕ) → lent ≤ length words
+    → HeardSoFar from (lending words lent) [] room from lent 0 words room
 unfolding hears
 none-heard from words room lent fits =
     record { places = refl; lends = refl; stores = refl; puts = record { ends = refl; says = refl }; few = omega arith; lendable = fits }
 
 -- one byte more
-pub heard-on : (from : Place) (on : Board) (bytes room : List ℕ) (place : Place) (lent written : ℕ) (words text : List ℕ) (b : ℕ) (next : Place) (lent′ end : ℕ) (words′ text′ : List ℕ)
+pub heard-on : (from : Place) (on : Board) (bytes room : List ℕ) (place : Place) (lent written : ℕ) (words text : List ℕ)
+    (b : ℕ) (next : Place) (lent′ end : ℕ) (words′ text′ : List ℕ)
     → HeardSoFar from on bytes room place lent written words text → HearsByte place (lending words lent) b next words′ lent′ written text end text′
     → HeardSoFar from on (bytes ++ b ∷ []) room next lent′ end words′ text′
 heard-on from on bytes room place lent written words text b next lent′ end words′ text′ so byte =
@@ -88,7 +93,8 @@ heard-on from on bytes room place lent written words text b next lent′ end wor
 -- ---- all the bytes that can be answered
 
 -- as many as there are, or as there is room for
-pub answerable-taken : (piece room : List ℕ) (most : ℕ) → most ≡ min (length piece) (length room / longestReply) → take most piece ≡ answerable piece room
+pub answerable-taken : (piece room : List ℕ) (most : ℕ) → most ≡ min (length piece) (length room / longestReply)
+    → take most piece ≡ answerable piece room
 answerable-taken piece room most e = go (leb (length room / longestReply) (length piece)) refl
   where
     go : (t : Bool) → leb (length room / longestReply) (length piece) ≡ t → take most piece ≡ answerable piece room
@@ -102,7 +108,8 @@ answerable-taken piece room most e = go (leb (length room / longestReply) (lengt
         let longer : length piece ≤ length room / longestReply = omega (arith, l) in
         take-all most piece long ∙ sym (take-all (length room / longestReply) piece longer)
 
-pub all-heard : (from : Place) (on : Board) (bytes room : List ℕ) (heard : Heard) (words text : List ℕ) → heard .taken ≡ length bytes → length bytes * longestReply ≤ length room
+pub all-heard : (from : Place) (on : Board) (bytes room : List ℕ) (heard : Heard) (words text : List ℕ)
+    → heard .taken ≡ length bytes → length bytes * longestReply ≤ length room
     → HeardSoFar from on bytes room (heard .place) (heard .lent) (heard .written) words text → HearsAll from on bytes room heard words text
 all-heard from on bytes room heard words text taken roomy so =
     let replies = hears from on bytes .replies in
@@ -134,8 +141,8 @@ ending-short place = go (eqb (place .digits) 0)
     go false = omega arith
 
 -- the replies stand inside the lent text
-pub written-fits : {from : Place} {on : Board} {bytes room : List ℕ} {heard : Heard} {words text : List ℕ} → HearsAll from on bytes room heard words text
-    → length text ≡ length room → heard .written ≤ length text
+pub written-fits : {from : Place} {on : Board} {bytes room : List ℕ} {heard : Heard} {words text : List ℕ}
+    → HearsAll from on bytes room heard words text → length text ≡ length room → heard .written ≤ length text
 written-fits {from} {on} {bytes} {room} h kept =
     let replies = hears from on bytes .replies in
     omega (arith, h .counts, ap length (h .says) ∙ length-append replies (drop (length replies) room), length-drop (length replies) room, kept)

@@ -1,16 +1,14 @@
--- The laws of request lines, and the theorems about texts.
-pub mod Ranges
-pub mod Reading
-pub mod Putting
+-- The theorems about replies, and about texts.
+pub mod ReplyTexts
 pub mod Answering
 pub mod Cutting
-pub mod Lines
 pub mod Hearing
 pub mod Meaning
 pub mod Sessions
-pub mod Determined
+pub mod ReaderDetermined
 pub mod Fitting
 pub mod Telling
-pub mod Refusing
+pub mod RefusedRequests
+pub mod SoundBoards
 pub mod Malformed
 pub mod Table

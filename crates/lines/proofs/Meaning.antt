@@ -7,26 +7,28 @@ use native.Mathlib.Omega.{arith}
 use lib.Dec.{eqb}
 use lib.ListN.{replicate}
 use borrow.Author.Tests.{ne-eqb}
-use Rattle.lines.specs.Digits.{lineEnd}
-use Rattle.lines.specs.Requests.{requestOf}
+use Rattle.digits.specs.Digits.{lineEnd}
+use Rattle.requests.specs.Requests.{requestOf}
+use Rattle.requests.specs.LinePlaces.{atStart}
+use Rattle.requests.proofs.LinePlaces.{linePlace, place-append, request-known, onward-begun, place-begun}
 use Rattle.lines.specs.Boards.{Board, replied}
 use Rattle.lines.specs.Texts.{linesFrom, repliedTo, means}
-use Rattle.lines.specs.Places.{atStart}
 use Rattle.lines.specs.Pieces.{Hearing, hears, goesOn, unheard, closed, heardInPieces}
 use Rattle.lines.proofs.Cutting.{hears-append, heard-joined}
-use Rattle.lines.proofs.Lines.{placeOf, place-append, request-known, onward-begun, place-begun}
 
 -- what is heard of a text that goes on with a line is what is replied to the lines that they make together
 abbrev HeardAsMeant : List ℕ → Type 0
-HeardAsMeant text = (line : List ℕ) (board : Board) → closed (hears (placeOf line) board text) ≡ repliedTo (linesFrom line text) board
+HeardAsMeant text = (line : List ℕ) (board : Board) → closed (hears (linePlace line) board text) ≡ repliedTo (linesFrom line text) board
 
 heard-as-meant : (text : List ℕ) → HeardAsMeant text
 unfolding hears linesFrom repliedTo
 heard-as-meant [] [] board = refl
-heard-as-meant [] (b ∷ line) board = rw (ne-eqb (placeOf (b ∷ line) .digits) 0 (omega (arith, place-begun atStart b line)), request-known (b ∷ line))
+heard-as-meant [] (b ∷ line) board =
+    rw (ne-eqb (linePlace (b ∷ line) .digits) 0 (omega (arith, place-begun atStart b line)), request-known (b ∷ line))
 heard-as-meant (b ∷ text) line board = go (eqb b lineEnd) refl (heard-as-meant text)
   where
-    go : (ends : Bool) → eqb b lineEnd ≡ ends → HeardAsMeant text → closed (hears (placeOf line) board (b ∷ text)) ≡ repliedTo (linesFrom line (b ∷ text)) board
+    go : (ends : Bool) → eqb b lineEnd ≡ ends → HeardAsMeant text
+        → closed (hears (linePlace line) board (b ∷ text)) ≡ repliedTo (linesFrom line (b ∷ text)) board
     go true e rest = rw (e, hears, linesFrom, request-known line, append-assoc, ← rest [] (replied (requestOf line) board .board))
     go false e rest = rw (e, hears, linesFrom, ← place-append atStart line b) (rest (line ++ b ∷ []) board)
 
@@ -55,11 +57,13 @@ unfolding hears
 line-end-heard hearing begun = simp (ne-eqb (hearing .place .digits) 0 (omega arith), append-nil)
 
 -- the last line may have an end or not, if it is not empty
-pub ended-line : (front : List ℕ) (b : ℕ) (board : Board) → (b ≡ lineEnd → ⊥) → means ((front ++ b ∷ []) ++ lineEnd ∷ []) board ≡ means (front ++ b ∷ []) board
+pub ended-line : (front : List ℕ) (b : ℕ) (board : Board) → (b ≡ lineEnd → ⊥)
+    → means ((front ++ b ∷ []) ++ lineEnd ∷ []) board ≡ means (front ++ b ∷ []) board
 unfolding hears
 ended-line front b board other =
     let text = front ++ b ∷ [] in
-    let begun : 0 < hears atStart board text .place .digits = rw (hears-append atStart board front (b ∷ []), ne-eqb b lineEnd other, hears) (onward-begun _ b) in
+    let begun : 0 < hears atStart board text .place .digits
+    = rw (hears-append atStart board front (b ∷ []), ne-eqb b lineEnd other, hears) (onward-begun _ b) in
     sym (whole-text (text ++ lineEnd ∷ []) board)
     ∙ rw (hears-append atStart board text (lineEnd ∷ [])) (line-end-heard (hears atStart board text) begun)
     ∙ whole-text text board

@@ -5,12 +5,12 @@ use mathlib.Core.List.{List, _++_}
 use native.Mathlib.Omega.{arith}
 use lib.ListN.{length, take, drop}
 use lib.Seq.{take-at}
+use Rattle.requests.specs.LinePlaces.{atStart}
+use Rattle.requests.specs.declared.Place.{Place}
 use Rattle.lines.specs.Boards.{Board, lending, longestReply}
 use Rattle.lines.specs.Texts.{means}
-use Rattle.lines.specs.Places.{atStart}
 use Rattle.lines.specs.Pieces.{Hearing, hears, goesOn, unheard, ending, closed, boardOf, answerable, HearsAll}
 use Rattle.lines.specs.Sessions.{Session, begun, next}
-use Rattle.lines.specs.declared.Place.{Place}
 use Rattle.lines.specs.declared.Heard.{Heard}
 use Rattle.lines.proofs.Cutting.{hears-append}
 use Rattle.lines.proofs.Hearing.{heard-whole, ending-short}
@@ -31,7 +31,8 @@ board-is {place} {on} {bytes} {room} {words} {text} {heard} h =
     ap (lending words) (all ∙ h .lends) ∙ ap (λ (a : List ℕ). lending a (hears place on bytes .board .lent)) (h .stores)
 
 -- a call that hears these bytes goes on as they do
-call-goes-on : (said : List ℕ) (place : Place) (on : Board) (bytes room words text : List ℕ) (heard : Heard) → HearsAll place on bytes room heard words text
+call-goes-on : (said : List ℕ) (place : Place) (on : Board) (bytes room words text : List ℕ) (heard : Heard)
+    → HearsAll place on bytes room heard words text
     → goesOn (record { replies = said; place = place; board = on }) bytes
     ≡ record { replies = said ++ take (heard .written) text; place = heard .place; board = boardOf words (heard .lent) }
 call-goes-on said place on bytes room words text heard h = rw (said-is h, h .places, board-is h) refl

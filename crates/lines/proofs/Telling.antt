@@ -5,15 +5,15 @@ use mathlib.Core.List.{List, [], _∷_, _++_}
 use native.Mathlib.Omega.{arith}
 use lib.ListN.{length, getD, take, drop}
 use Rattle.layout.proofs.Bounds.{AllBelow}
-use Rattle.arena.specs.Answers.{Answer}
-use Rattle.arena.proofs.Cases.{start-case, alloc-case, free-case, report-case}
-use Rattle.arena.proofs.Regranting.{realloc-case}
-use Rattle.lines.specs.Digits.{lineEnd, numberOf, fourDigitValues, twoDigitValues}
-use Rattle.lines.specs.Requests.{field, kindOf}
+use Rattle.rules.specs.Answers.{Answer}
+use Rattle.rules.proofs.CallCases.{start-case, alloc-case, free-case, report-case}
+use Rattle.rules.proofs.RegrantCases.{realloc-case}
+use Rattle.digits.specs.Digits.{lineEnd, numberOf, fourDigitValues, twoDigitValues}
+use Rattle.digits.proofs.Reading.{two-read, four-read}
+use Rattle.requests.specs.Requests.{field, kindOf}
+use Rattle.requests.specs.declared.Request.{Request}
+use Rattle.requests.specs.declared.Request.the-variants.{Start, Alloc, Free, Realloc, Report, Malformed}
 use Rattle.lines.specs.Boards.{Board, fieldsText, replyText, lentOf, lentFor, outcomeOf, replied}
-use Rattle.lines.specs.declared.request.Request.{Request}
-use Rattle.lines.specs.declared.request.Request.the-variants.{Start, Alloc, Free, Realloc, Report, Malformed}
-use Rattle.lines.proofs.Reading.{two-read, four-read}
 use Rattle.lines.proofs.Fitting.{Fits, code-below, start-fits, alloc-fits, free-fits, realloc-fits, report-fits}
 
 -- how many fields a request is answered
@@ -33,7 +33,7 @@ pub record Legible (kind : ℕ) (answer : Answer) (reply : List ℕ) : Type 0 wh
   pub fields-fit : AllBelow fourDigitValues (answer .values)
 
 -- a reply whose digits make its numbers again: two of kind, two of code, four for each field
-pub record Reads (kind : ℕ) (answer : Answer) (reply : List ℕ) : Type 0 where
+pub record ReadBack (kind : ℕ) (answer : Answer) (reply : List ℕ) : Type 0 where
   pub kind-read : numberOf (take 2 reply) ≡ kind
   pub code-read : numberOf (take 2 (drop 2 reply)) ≡ answer .code
   pub field-read : (i : ℕ) → i < length (answer .values) → field (drop 2 reply) i ≡ getD (answer .values) i 0
@@ -79,7 +79,7 @@ field-told (v ∷ values) rest (suc i) less fits =
     let e : suc i * 4 ≡ suc (suc (suc (suc (i * 4)))) = omega arith in rw e (field-told values rest i (omega arith) (fits .1))
 
 -- numbers that fit can be read back
-pub legible-read : (kind : ℕ) (answer : Answer) (reply : List ℕ) → Legible kind answer reply → Reads kind answer reply
+pub legible-read : (kind : ℕ) (answer : Answer) (reply : List ℕ) → Legible kind answer reply → ReadBack kind answer reply
 unfolding replyText
 legible-read kind answer reply legible =
     rw (legible .is)
@@ -92,5 +92,5 @@ legible-read kind answer reply legible =
     })
 
 -- so every number of every reply can be read back
-pub reply-reads : (request : Request) (board : Board) → Reads (kindOf request) (outcomeOf request board .answer) (replied request board .reply)
+pub reply-reads : (request : Request) (board : Board) → ReadBack (kindOf request) (outcomeOf request board .answer) (replied request board .reply)
 reply-reads request board = legible-read _ _ _ (reply-legible request board)

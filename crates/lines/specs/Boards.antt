@@ -5,12 +5,12 @@ use mathlib.Core.List.{List, [], _∷_, _++_}
 use lib.ListN.{length, take, drop}
 use lib.Dec.{leb, eqb}
 use Rattle.layout.specs.declared.Reason.the-variants.{Frame}
-use Rattle.arena.specs.Answers.{Answer, refusal, Outcome}
-use Rattle.arena.specs.Calls.{startOn, allocOn, freeOn, reallocOn, reportOn}
-use Rattle.lines.specs.Digits.{lineEnd, twoDigits, fourDigits}
-use Rattle.lines.specs.Requests.{kindOf}
-use Rattle.lines.specs.declared.request.Request.{Request}
-use Rattle.lines.specs.declared.request.Request.the-variants.{Start, Alloc, Free, Realloc, Report, Malformed}
+use Rattle.rules.specs.Answers.{Answer, refusal, Outcome}
+use Rattle.rules.specs.Calls.{startOn, allocOn, freeOn, reallocOn, reportOn}
+use Rattle.digits.specs.Digits.{lineEnd, twoDigits, fourDigits}
+use Rattle.requests.specs.Requests.{kindOf}
+use Rattle.requests.specs.declared.Request.{Request}
+use Rattle.requests.specs.declared.Request.the-variants.{Start, Alloc, Free, Realloc, Report, Malformed}
 
 -- a buffer of words, the first `lent` of which are lent to the calls
 pub record Board : Type 0 where

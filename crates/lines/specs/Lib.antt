@@ -1,9 +1,6 @@
-pub mod Digits
-pub mod Requests
 pub mod Boards
 pub mod Texts
-pub mod Places
 pub mod Pieces
 pub mod Sessions
 pub mod Table
-pub mod Inside
+pub mod Answering

@@ -5,10 +5,10 @@ use mathlib.Core.Bool.{true, false, cond}
 use mathlib.Core.List.{List, [], _∷_, _++_}
 use lib.ListN.{length, take, drop}
 use lib.Dec.{eqb}
-use Rattle.lines.specs.Digits.{lineEnd}
+use Rattle.digits.specs.Digits.{lineEnd}
+use Rattle.requests.specs.LinePlaces.{atStart, onward, requestAt}
+use Rattle.requests.specs.declared.Place.{Place}
 use Rattle.lines.specs.Boards.{Board, lending, longestReply, Replied, replied}
-use Rattle.lines.specs.Places.{atStart, onward, requestAt}
-use Rattle.lines.specs.declared.Place.{Place}
 use Rattle.lines.specs.declared.Heard.{Heard}
 
 -- what is known once bytes have been heard: the replies so far, the place, and the board
@@ -70,7 +70,8 @@ boardOf words lent = lending words (min lent (length words))
 abbrev pub answerable : List ℕ → List ℕ → List ℕ
 answerable piece room = take (length room / longestReply) piece
 
--- the promise of a reader that hears these bytes, all of them: their replies stand at the start of the lent text `room`, and the rest of it stays
+-- the promise of a reader that hears these bytes, all of them: their replies stand at the start of the lent text
+-- `room`, and the rest of it stays
 pub record HearsAll (place : Place) (board : Board) (bytes : List ℕ) (room : List ℕ) (heard : Heard) (words : List ℕ) (text : List ℕ) : Type 0 where
   pub takes : heard .taken ≡ length bytes
   pub places : heard .place ≡ hears place board bytes .place

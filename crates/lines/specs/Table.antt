@@ -1,4 +1,5 @@
--- Document 01's whole run and its move, in its own letters: what is asked of the functions that the program's contracts cite.
+-- Document 01's whole run and its move, in its own letters: what is asked of the functions that the program's contracts
+-- cite.
 use Prim.Native.Nat.{ℕ}
 use Prim.Native.Char.{code}
 use Prim.Native.String.{String, [] as noText, _∷_ as _before_}
@@ -8,9 +9,9 @@ use lib.ListN.{replicate, take, drop}
 use Rattle.layout.specs.Numbers.{greatestLength}
 use Rattle.layout.specs.Chunks.{free, live}
 use Rattle.layout.specs.Walk.{chunksOf}
-use Rattle.lines.specs.Digits.{lineEnd}
+use Rattle.digits.specs.Digits.{lineEnd}
+use Rattle.requests.specs.LinePlaces.{atStart}
 use Rattle.lines.specs.Boards.{Board, lending, lentOf}
-use Rattle.lines.specs.Places.{atStart}
 use Rattle.lines.specs.Pieces.{Hearing, hears}
 
 -- a text's bytes

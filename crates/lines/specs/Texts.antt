@@ -3,8 +3,8 @@ use Prim.Native.Nat.{ℕ}
 use mathlib.Core.Bool.{true, false}
 use mathlib.Core.List.{List, [], _∷_, _++_}
 use lib.Dec.{eqb}
-use Rattle.lines.specs.Digits.{lineEnd}
-use Rattle.lines.specs.Requests.{requestOf}
+use Rattle.digits.specs.Digits.{lineEnd}
+use Rattle.requests.specs.Requests.{requestOf}
 use Rattle.lines.specs.Boards.{Board, Replied, replied}
 
 -- a last line without an end counts if it is not empty

@@ -1,12 +1,12 @@
 // A request answered: the call on the lent words, and its reply.
 use super::reply;
-use super::request::Request;
-use arena::Finish;
+use answers::Finish;
 use layout::Reason;
 use layout::wide;
+use requests::Request;
+ghost use Rattle.requests.specs.declared.Request.the-variants.{Start, Alloc, Free, Realloc, Report, Malformed};
 ghost use Rattle.lines.specs.Boards.{lending, replied};
-ghost use Rattle.lines.specs.Inside.Answering.{Ready, Answers};
-ghost use Rattle.lines.specs.declared.request.Request.the-variants.{Start, Alloc, Free, Realloc, Report, Malformed};
+ghost use Rattle.lines.specs.Answering.{Ready, Answers};
 
 // How many words are lent after a reply, and where it ends.
 pub(crate) struct Said {
@@ -23,7 +23,8 @@ pub(crate) fn answer(
     at: usize,
 ) -> Said
     requires { ⌜ Ready (now words) lent (now out) at ⌝ }
-    ensures { λ r. ⌜ Answers (replied request (lending (now (words .entry)) lent)) (now (words .exit)) (r .lent) at (now (out .entry)) (r .end) (now (out .exit)) ⌝ }
+    ensures { λ r. ⌜ Answers (replied request (lending (now (words .entry)) lent))
+        (now (words .exit)) (r .lent) at (now (out .entry)) (r .end) (now (out .exit)) ⌝ }
 {
     match request {
         Request::Start(n) => start(wide(n), words, lent, out, at),
@@ -53,16 +54,17 @@ pub(crate) fn answer(
 // A start lends the first `n` words; one that is refused changes nothing.
 fn start(n: usize, words: &mut [u32], lent: usize, out: &mut [u8], at: usize) -> Said
     requires { ⌜ Ready (now words) lent (now out) at ⌝ }
-    ensures { λ r. ⌜ Answers (replied (Start n) (lending (now (words .entry)) lent)) (now (words .exit)) (r .lent) at (now (out .entry)) (r .end) (now (out .exit)) ⌝ }
+    ensures { λ r. ⌜ Answers (replied (Start n) (lending (now (words .entry)) lent))
+        (now (words .exit)) (r .lent) at (now (out .entry)) (r .end) (now (out .exit)) ⌝ }
 {
     if words.len() < n {
         return Said {
             lent,
-            end: reply::put_finish(out, at, 1, Finish::Refused(Reason::Length)),
+            end: reply::put_reply(out, at, 1, answers::refusal_numbers(0, Reason::Length)),
         };
     }
     let finish = arena::start(&mut words[..n]);
-    let end = reply::put_finish(out, at, 1, finish);
+    let end = reply::put_reply(out, at, 1, answers::finish_numbers(finish));
     if let Finish::Done = finish {
         return Said { lent: n, end };
     }
@@ -72,43 +74,48 @@ fn start(n: usize, words: &mut [u32], lent: usize, out: &mut [u8], at: usize) ->
 // An alloc on the lent words.
 fn alloc(n: u32, words: &mut [u32], lent: usize, out: &mut [u8], at: usize) -> usize
     requires { ⌜ Ready (now words) lent (now out) at ⌝ }
-    ensures { λ r. ⌜ Answers (replied (Alloc n) (lending (now (words .entry)) lent)) (now (words .exit)) lent at (now (out .entry)) r (now (out .exit)) ⌝ }
+    ensures { λ r. ⌜ Answers (replied (Alloc n) (lending (now (words .entry)) lent))
+        (now (words .exit)) lent at (now (out .entry)) r (now (out .exit)) ⌝ }
 {
     let granted = arena::alloc(&mut words[..lent], n);
-    reply::put_granted(out, at, 2, granted)
+    reply::put_reply(out, at, 2, answers::granted_numbers(granted))
 }
 
 // A free on the lent words.
 fn free(b: u32, words: &mut [u32], lent: usize, out: &mut [u8], at: usize) -> usize
     requires { ⌜ Ready (now words) lent (now out) at ⌝ }
-    ensures { λ r. ⌜ Answers (replied (Free b) (lending (now (words .entry)) lent)) (now (words .exit)) lent at (now (out .entry)) r (now (out .exit)) ⌝ }
+    ensures { λ r. ⌜ Answers (replied (Free b) (lending (now (words .entry)) lent))
+        (now (words .exit)) lent at (now (out .entry)) r (now (out .exit)) ⌝ }
 {
     let finish = arena::free(&mut words[..lent], b);
-    reply::put_finish(out, at, 3, finish)
+    reply::put_reply(out, at, 3, answers::finish_numbers(finish))
 }
 
 // A realloc on the lent words.
 fn realloc(b: u32, n: u32, words: &mut [u32], lent: usize, out: &mut [u8], at: usize) -> usize
     requires { ⌜ Ready (now words) lent (now out) at ⌝ }
-    ensures { λ r. ⌜ Answers (replied (Realloc b n) (lending (now (words .entry)) lent)) (now (words .exit)) lent at (now (out .entry)) r (now (out .exit)) ⌝ }
+    ensures { λ r. ⌜ Answers (replied (Realloc b n) (lending (now (words .entry)) lent))
+        (now (words .exit)) lent at (now (out .entry)) r (now (out .exit)) ⌝ }
 {
     let granted = arena::realloc(&mut words[..lent], b, n);
-    reply::put_granted(out, at, 4, granted)
+    reply::put_reply(out, at, 4, answers::granted_numbers(granted))
 }
 
 // A report on the lent words.
 fn report(words: &[u32], lent: usize, out: &mut [u8], at: usize) -> usize
     requires { ⌜ Ready (now words) lent (now out) at ⌝ }
-    ensures { λ r. ⌜ Answers (replied Report (lending (now (words .entry)) lent)) (now (words .entry)) lent at (now (out .entry)) r (now (out .exit)) ⌝ }
+    ensures { λ r. ⌜ Answers (replied Report (lending (now (words .entry)) lent))
+        (now (words .entry)) lent at (now (out .entry)) r (now (out .exit)) ⌝ }
 {
     let counts = arena::report(&words[..lent]);
-    reply::put_reported(out, at, 5, counts)
+    reply::put_reply(out, at, 5, answers::reported_numbers(counts))
 }
 
 // A malformed line makes no call; `words` and `lent` are there for the promise that they stay.
 fn malformed(words: &[u32], lent: usize, out: &mut [u8], at: usize) -> usize
     requires { ⌜ Ready (now words) lent (now out) at ⌝ }
-    ensures { λ r. ⌜ Answers (replied Malformed (lending (now (words .entry)) lent)) (now (words .entry)) lent at (now (out .entry)) r (now (out .exit)) ⌝ }
+    ensures { λ r. ⌜ Answers (replied Malformed (lending (now (words .entry)) lent))
+        (now (words .entry)) lent at (now (out .entry)) r (now (out .exit)) ⌝ }
 {
-    reply::put_reply(out, at, 0, layout::number(Reason::Frame), &[])
+    reply::put_reply(out, at, 0, answers::refusal_numbers(0, Reason::Frame))
 }

@@ -1,26 +1,18 @@
-// The board's request lines: a text is heard piece by piece, and each line of it is answered by a call on the lent words.
+// Request lines: a text is heard piece by piece, and each line of it is answered by a call on the lent words.
 mod answer;
-mod digits;
 mod reply;
-mod request;
 
+pub use requests::Place;
 ghost use mathlib.Core.Path.{_≡_};
 ghost use Rattle.lines.specs.Boards.{lending};
-ghost use Rattle.lines.specs.Places.{atStart};
 ghost use Rattle.lines.specs.Pieces.{nothingHeard, ending, boardOf, answerable, HearsAll};
-ghost use Rattle.lines.specs.Inside.Answering.{Ready, HearsByte};
+ghost use Rattle.lines.specs.Answering.{Ready, HearsByte};
 
 // The longest reply, that of a report, in bytes.
 pub const LONGEST_REPLY: usize = 21;
 
-// How far an unfinished line has come: its digits are counted, and the number that they make is kept. A line that can be no request
-// any more has a digit too many.
-pub struct Place {
-    pub digits: usize,
-    pub number: u64,
-}
-
-// What came of a piece: the place after it, how many words are lent, how many bytes of it were taken, and how many bytes of reply were written.
+// What came of a piece: the place after it, how many words are lent, how many bytes of it were taken, and how many
+// bytes of reply were written.
 pub struct Heard {
     pub place: Place,
     pub lent: usize,
@@ -28,22 +20,12 @@ pub struct Heard {
     pub written: usize,
 }
 
-// The place at the start of a line.
-fn at_start() -> Place
-    ensures { λ r. ⌜ r ≡ atStart ⌝ }
-{
-    Place {
-        digits: 0,
-        number: 0,
-    }
-}
-
 // The beginning of a text: nothing is heard, and no words are lent.
 pub fn nothing_heard() -> Heard
     ensures { λ r. ⌜ r ≡ nothingHeard ⌝ }
 {
     Heard {
-        place: at_start(),
+        place: requests::at_start(),
         lent: 0,
         taken: 0,
         written: 0,
@@ -53,30 +35,33 @@ pub fn nothing_heard() -> Heard
 // Hears one byte: the end of a line, which is answered, or one more byte of it.
 fn hear_byte(heard: Heard, b: u8, words: &mut [u32], out: &mut [u8]) -> Heard
     requires { ⌜ Ready (now words) (heard .lent) (now out) (heard .written) ⌝ }
-    ensures { λ r. ⌜ HearsByte (heard .place) (lending (now (words .entry)) (heard .lent)) b (r .place) (now (words .exit)) (r .lent) (heard .written) (now (out .entry)) (r .written) (now (out .exit)) ⌝ }
+    ensures { λ r. ⌜ HearsByte (heard .place) (lending (now (words .entry)) (heard .lent)) b
+        (r .place) (now (words .exit)) (r .lent) (heard .written) (now (out .entry)) (r .written) (now (out .exit)) ⌝ }
 {
     let place = heard.place;
     if b == b'\n' {
-        let request = request::request_at(place);
+        let request = requests::request_at(place);
         let said = answer::answer(request, words, heard.lent, out, heard.written);
         return Heard {
-            place: at_start(),
+            place: requests::at_start(),
             lent: said.lent,
             taken: heard.taken,
             written: said.end,
         };
     }
     Heard {
-        place: request::onward(place, b),
+        place: requests::onward(place, b),
         lent: heard.lent,
         taken: heard.taken,
         written: heard.written,
     }
 }
 
-// Goes on from `last` with a piece of the text: hears as many bytes of it as `out` has room to answer, and writes the replies at the start of `out`.
+// Goes on from `last` with a piece of the text: hears as many bytes of it as `out` has room to answer, and writes the
+// replies at the start of `out`.
 pub fn hear(last: Heard, words: &mut [u32], piece: &[u8], out: &mut [u8]) -> Heard
-    ensures { λ r. ⌜ HearsAll (last .place) (boardOf (now (words .entry)) (last .lent)) (answerable (now (piece .entry)) (now (out .entry))) (now (out .entry)) r (now (words .exit)) (now (out .exit)) ⌝ }
+    ensures { λ r. ⌜ HearsAll (last .place) (boardOf (now (words .entry)) (last .lent))
+        (answerable (now (piece .entry)) (now (out .entry))) (now (out .entry)) r (now (words .exit)) (now (out .exit)) ⌝ }
 {
     let most = layout::smaller(piece.len(), out.len() / LONGEST_REPLY);
     let place = last.place;
@@ -97,7 +82,8 @@ pub fn hear(last: Heard, words: &mut [u32], piece: &[u8], out: &mut [u8]) -> Hea
 
 // Goes on from `last` with the end of the text: a line that has no end is answered if something has come of it.
 pub fn close(last: Heard, words: &mut [u32], out: &mut [u8]) -> Heard
-    ensures { λ r. ⌜ HearsAll (last .place) (boardOf (now (words .entry)) (last .lent)) (answerable (ending (last .place)) (now (out .entry))) (now (out .entry)) r (now (words .exit)) (now (out .exit)) ⌝ }
+    ensures { λ r. ⌜ HearsAll (last .place) (boardOf (now (words .entry)) (last .lent))
+        (answerable (ending (last .place)) (now (out .entry))) (now (out .entry)) r (now (words .exit)) (now (out .exit)) ⌝ }
 {
     let place = last.place;
     if place.digits == 0 {

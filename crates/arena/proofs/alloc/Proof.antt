@@ -6,24 +6,43 @@ use borrow.Author.Needs.{needs}
 use Rattle.layout.specs.Numbers.{lawful}
 use Rattle.layout.specs.Reasons.{arenaGate, requestGate}
 use Rattle.layout.specs.declared.Gate.the-variants.{Open}
-use Rattle.arena.specs.Calls.{allocBy}
-use Rattle.arena.proofs.Gates.{gate-open, sound-lawful, request-small, request-open}
-use Rattle.arena.proofs.Following.{way-gives}
+use Rattle.rules.specs.Calls.{allocBy}
+use Rattle.rules.proofs.Gates.{gate-open, sound-lawful, request-small, request-open}
+use Rattle.arena.proofs.Granting.{way-gives}
 use Rattle.arena.proofs.alloc.Statement.{statement}
 use Rattle.arena.proofs.alloc.Tie as tie
 
+-- ---- the places of the walk: where the call began, where the arena's gate was open, and where the request's was
+
+abbrev began : tie.After-enum-told → tie.Start
+began c = c .before .before .before .before .before
+
+abbrev arena-passed : tie.After-enum-told2 → tie.After-enum-told
+arena-passed c = c .before .before .before .before
+
+abbrev request-passed : tie.After-need → tie.After-enum-told2
+request-passed c = c .before .before .before
+
+-- ---- what is known there
+
 -- the arena's gate is open
-arena-open : (c : tie.After-enum-told) → Open ≡ arenaGate (c .before .before .before .before .before .args .a .now)
+arena-open : (c : tie.After-enum-told) → Open ≡ arenaGate (began c .args .a .now)
 arena-open c = sym (c .enum-told .given .1) ∙ c .before .before .check-arena .ensures
 
 -- what the request's gate is
-asked : (c : tie.After-check-request) → let x = c .before .before .before .before .before .before .before .args in c .check-request .result ≡ requestGate (length (x .a .now)) (x .n)
+asked : (c : tie.After-check-request) → let x = began (c .before .before) .args in
+    c .check-request .result ≡ requestGate (length (x .a .now)) (x .n)
 asked c = c .check-request .ensures ∙ ap (requestGate _) (c .before .wide .ensures)
 
 -- it is open too
 request-opens : (c : tie.After-enum-told2)
-    → let x = c .before .before .before .before .before .before .before .before .before .args in (lawful (length (x .a .now)) ≡ true) × (Open ≡ requestGate (length (x .a .now)) (x .n))
-request-opens c = (sound-lawful _ (gate-open _ (arena-open (c .before .before .before .before))), sym (c .enum-told2 .given .1) ∙ asked (c .before .before))
+    → let x = began (arena-passed c) .args in
+    (lawful (length (x .a .now)) ≡ true) × (Open ≡ requestGate (length (x .a .now)) (x .n))
+request-opens c = (
+  sound-lawful _ (gate-open _ (arena-open (arena-passed c))),
+  sym (c .enum-told2 .given .1)
+      ∙ asked (c .before .before),
+)
 
 check-arena-requires : tie.Need-check-arena-requires
 check-arena-requires c κs = search needs
@@ -56,7 +75,8 @@ same-length-2 c = search needs
 returns-2 : tie.Need-returns-2
 unfolding allocBy
 returns-2 c =
-    rw (← arena-open (c .before .before .before .before .before), ← (sym (c .before .request .given .1) ∙ asked (c .before .before .before))) (record { answers = refl; leaves = refl })
+    rw (← arena-open (c .before .before .before .before .before), ← (sym (c .before .request .given .1) ∙ asked (c .before .before .before)))
+    (record { answers = refl; leaves = refl })
 
 enum-told-2 : tie.Need-enum-told-2
 enum-told-2 c = search needs
@@ -69,8 +89,12 @@ need-requires c κs = let r = request-opens (c .before .before) in rw (c .wide2 
 
 allot-requires : tie.Need-allot-requires
 allot-requires c κs =
-    let r = request-opens (c .before .before .before) in
-    (gate-open _ (arena-open (c .before .before .before .before .before .before .before)), rw (c .need .ensures, c .before .wide2 .ensures) (request-open _ _ (r .0) (r .1)))
+    let passed = request-passed c in
+    let r = request-opens passed in (
+      gate-open _ (arena-open (arena-passed passed)),
+      rw (c .need .ensures, c .before .wide2 .ensures)
+          (request-open _ _ (r .0) (r .1)),
+    )
 
 answer-requires : tie.Need-answer-requires
 answer-requires c κs = search needs
@@ -83,7 +107,9 @@ unfolding allocBy
 returns-3 c =
     let d = c .before .before .before .before in
     let f = rw (d .need .ensures, d .before .wide2 .ensures) at (c .before .before .before .allot .ensures) in
-    rw (← arena-open (d .before .before .before .before .before .before .before), ← request-opens (d .before .before .before) .1, c .answer .ensures) (way-gives _ _ _ _ _ f)
+    let passed = request-passed d in
+    rw (← arena-open (arena-passed passed), ← request-opens passed .1, c .answer .ensures)
+    (way-gives _ _ _ _ _ f)
 
 pub alloc-spec : {M : Type 1} → statement M
 alloc-spec =

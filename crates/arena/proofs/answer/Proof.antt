@@ -1,7 +1,7 @@
--- `arena::answer` meets its contract: each arm is given which way it is.
+-- `answer` meets its contract: each arm is given which way it is.
 use mathlib.Core.Path.{sym, ap}
 use borrow.Author.Needs.{needs}
-use Rattle.arena.specs.Inside.Ways.{grantedOf}
+use Rattle.arena.specs.Targets.{grantedOf}
 use Rattle.arena.proofs.answer.Statement.{statement}
 use Rattle.arena.proofs.answer.Tie as tie
 

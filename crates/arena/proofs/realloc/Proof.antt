@@ -1,11 +1,12 @@
--- `realloc` meets its contract: it answers what the resize did or, where that would have to move the block, what the move does; and these are the three ways.
+-- `realloc` meets its contract: it answers what the resize did or, where that would have to move the block, what the
+-- move does; and these are the three ways.
 use mathlib.Core.List.{[], _∷_}
 use native.Mathlib.Omega.{arith}
 use borrow.Author.Needs.{needs}
 use types.Run.{miss}
 use Rattle.layout.specs.declared.Reason.the-variants.{WouldMove}
 use Rattle.layout.proofs.Reasons.{number-injective}
-use Rattle.arena.proofs.Reallocating.{resize-gives-realloc, relocate-gives-realloc}
+use Rattle.rules.proofs.ThreeWays.{resize-gives-realloc, relocate-gives-realloc}
 use Rattle.arena.proofs.realloc.Statement.{statement}
 use Rattle.arena.proofs.realloc.Tie as tie
 
@@ -28,7 +29,8 @@ returns : tie.Need-returns
 returns c =
     let e = c .before .before .before .before in
     let f = e .before .before .before in
-    relocate-gives-realloc _ _ _ _ _ _ (rw (f .resized .given .1, e .enum-told .given .1) at (f .before .before .before .before .resize .ensures)) (c .before .before .relocate .ensures)
+    relocate-gives-realloc _ _ _ _ _ _ (rw (f .resized .given .1, e .enum-told .given .1) at (f .before .before .before .before .resize .ensures))
+    (c .before .before .relocate .ensures)
 
 enum-told-2 : tie.Need-enum-told-2
 enum-told-2 c = search needs
@@ -38,8 +40,11 @@ same-length-2 c = search needs
 
 returns-2 : tie.Need-returns-2
 returns-2 c =
-    let e = c .before .before .resized .given .1 in
-    resize-gives-realloc _ _ _ _ _ (λ is. let other = rw (number-injective (c .before .before .resized .given .0 .0) WouldMove is) at (c .match2 .keys2) in miss (0 ∷ 1 ∷ 2 ∷ 3 ∷ 4 ∷ 5 ∷ 6 ∷ []) 7 tt other) (rw e at (c .before .before .before .before .before .before .resize .ensures))
+    let known = c .before .before in
+    let e = known .resized .given .1 in
+    resize-gives-realloc _ _ _ _ _ (λ is. let other = rw (number-injective (known .resized .given .0 .0) WouldMove is) at
+    (c .match2 .keys2) in miss (0 ∷ 1 ∷ 2 ∷ 3 ∷ 4 ∷ 5 ∷ 6 ∷ []) 7 tt other)
+    (rw e at (known .before .before .before .before .resize .ensures))
 
 same-length-3 : tie.Need-same-length-3
 same-length-3 c = search needs

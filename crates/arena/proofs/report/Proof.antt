@@ -1,4 +1,5 @@
--- `arena::report` meets its contract: what `check_arena`, `count_free` and `count_live` ensure says what `reportOn` is, and the counts of a sound arena fit a word.
+-- `report` meets its contract: what `check_arena`, `count_free` and `count_live` ensure says what `reportOn` is, and
+-- the counts of a sound arena fit a word.
 use mathlib.Core.Path.{_≡_, refl, sym, _∙_}
 use borrow.Author.Needs.{needs}
 use native.Mathlib.Omega.{arith}
@@ -6,14 +7,18 @@ use Rattle.layout.specs.Numbers.{greatestLength}
 use Rattle.layout.specs.Walk.{chunksOf}
 use Rattle.layout.specs.Reasons.{arenaGate}
 use Rattle.layout.specs.declared.Gate.the-variants.{Open}
-use Rattle.arena.specs.Calls.{reportOn}
-use Rattle.arena.proofs.Gates.{gate-open}
-use Rattle.arena.proofs.Tallying.{Below, counts-small}
+use Rattle.rules.specs.Calls.{reportOn}
+use Rattle.rules.proofs.Gates.{gate-open}
+use Rattle.rules.proofs.ReportCounts.{Below, counts-small}
 use Rattle.arena.proofs.report.Statement.{statement}
 use Rattle.arena.proofs.report.Tie as tie
 
+-- the place of the walk where the call began, before the arena's gate
+abbrev began : tie.After-enum-told → tie.Start
+began c = c .before .before .before .before
+
 -- the arena's gate is open
-arena-open : (c : tie.After-enum-told) → Open ≡ arenaGate (c .before .before .before .before .args .a .now)
+arena-open : (c : tie.After-enum-told) → Open ≡ arenaGate (began c .args .a .now)
 arena-open c = sym (c .enum-told .given .1) ∙ c .before .before .check-arena .ensures
 
 check-arena-requires : tie.Need-check-arena-requires
@@ -32,7 +37,7 @@ enum-told : tie.Need-enum-told
 enum-told c = search needs
 
 -- what was counted fits a word
-small : (c : tie.After-count-live) → Below greatestLength (chunksOf (c .before .before .before .before .before .before .args .a .now))
+small : (c : tie.After-count-live) → Below greatestLength (chunksOf (began (c .before .before) .args .a .now))
 small c = counts-small _ (gate-open _ (arena-open (c .before .before)))
 
 count-free-requires : tie.Need-count-free-requires

@@ -1,4 +1,4 @@
--- `arena::start` meets its contract: the two headers that `put` stores are those of one free chunk.
+-- `start` meets its contract: the two headers that `put` stores are those of one free chunk.
 use Prim.Native.Nat.{_≤_}
 use mathlib.Core.Path.{_≡_, refl, sym, _∙_}
 use mathlib.Core.Bool.{true}
@@ -8,7 +8,7 @@ use borrow.Author.Needs.{needs}
 use Rattle.layout.specs.Numbers.{lawful, leastLength, greatestLength}
 use Rattle.layout.specs.Chunks.{write, written}
 use Rattle.layout.proofs.Bools.{lawful-bounds}
-use Rattle.arena.specs.Calls.{startOn}
+use Rattle.rules.specs.Calls.{startOn}
 use Rattle.arena.proofs.start.Statement.{statement}
 use Rattle.arena.proofs.start.Tie as tie
 

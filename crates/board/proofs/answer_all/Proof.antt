@@ -1,4 +1,5 @@
--- `answer_all` meets its contract, which promises nothing: each turn finds the buffers as long as they were. The measure is the turns that are left.
+-- `answer_all` meets its contract, which promises nothing: each turn finds the buffers as long as they were. The
+-- measure is the turns that are left.
 use mathlib.Core.Path.{_≡_, refl}
 use lib.ListN.{length}
 use borrow.Author.Needs.{needs}
@@ -6,7 +7,8 @@ use Rattle.board.proofs.answer_all.Statement.{statement}
 use Rattle.board.proofs.answer_all.Tie as tie
 
 abbrev Inv-loop : tie.InvT-loop
-Inv-loop words₀ piece₀ out₀ carried₀ turns₀ words piece out carried turns = (length words ≡ length words₀) × (length piece ≡ length piece₀) × (length out ≡ length out₀)
+Inv-loop words₀ piece₀ out₀ carried₀ turns₀ words piece out carried turns =
+    (length words ≡ length words₀) × (length piece ≡ length piece₀) × (length out ≡ length out₀)
 
 abbrev μ-loop : tie.MeasureT-loop
 μ-loop words₀ piece₀ out₀ carried₀ turns₀ words piece out carried turns = turns

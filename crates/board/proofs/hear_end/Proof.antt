@@ -20,7 +20,9 @@ returns c =
     let d = c .before .before .before .before in
     let s = d .before .before .before .before .before in
     let heard = d .close .ensures in
-    (rw (heard-whole (ending (s .args .last .place)) (s .args .out .now) (omega (arith, s .pre, ending-short (s .args .last .place)))) at heard, written-fits heard (same-length-2 c))
+    let place = s .args .last .place in
+    let whole = heard-whole (ending place) (s .args .out .now) (omega (arith, s .pre, ending-short place)) in
+    (rw whole at heard, written-fits heard (same-length-2 c))
 
 pub hear-end-spec : {M : Type 1} → statement M
 hear-end-spec = tie.close (tie.spec close-requires same-length same-length-2 returns)

@@ -33,7 +33,9 @@ same-length-3 : tie.Need-same-length-3
 same-length-3 c = search needs
 
 returns : tie.Need-returns
-returns c = ended (c .before .before .before .before .before .before .hear-end .ensures .0)
+returns c =
+    let d = c .before .before .before .before .before .before in
+    ended (d .hear-end .ensures .0)
 
 count-requires : tie.Need-count-requires
 count-requires c κs = search needs

@@ -1,7 +1,7 @@
 -- `cases::run_call` is safe: what was handed back fits the part, of which it is the start.
 use native.Mathlib.Omega.{arith}
 use borrow.Author.Needs.{needs}
-use Rattle.cases.proofs.Settling.{begins-short}
+use Rattle.trials.proofs.Trials.{begins-short}
 use Rattle.cases.proofs.run_call.Statement.{statement}
 use Rattle.cases.proofs.run_call.Tie as tie
 
@@ -21,7 +21,9 @@ reply-to-requires : tie.Need-reply-to-requires
 reply-to-requires c κs = search needs
 
 write-reply-requires : tie.Need-write-reply-requires
-write-reply-requires c κs = omega (arith, begins-short (c .before .before .before .before .before .before .before .reply-to .ensures .hands))
+write-reply-requires c κs =
+    let short = (let replied = c .before .before .before .before .before .before .before in begins-short (replied .reply-to .ensures .hands)) in
+    omega (arith, short)
 
 same-length-3 : tie.Need-same-length-3
 same-length-3 c = search needs

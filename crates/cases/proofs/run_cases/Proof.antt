@@ -1,14 +1,16 @@
--- `cases::run_cases` is safe and ends. The loop's invariant: the buffers keep their lengths, and so have room for a case.
+-- `cases::run_cases` is safe and ends. The loop's invariant: the buffers keep their lengths, and so have room for a
+-- case.
 -- The measure is the number of turns that are left.
 use lib.ListN.{length}
 use mathlib.Core.Path.{_≡_}
 use borrow.Author.Needs.{needs}
-use Rattle.cases.specs.Cases.{Buffers}
+use Rattle.cases.specs.Buffers.{Buffers}
 use Rattle.cases.proofs.run_cases.Statement.{statement}
 use Rattle.cases.proofs.run_cases.Tie as tie
 
 abbrev Inv-loop : tie.InvT-loop
-Inv-loop space₀ part₀ bytes₀ turns₀ space part bytes turns = Buffers space part bytes × (length space ≡ length space₀) × (length part ≡ length part₀) × (length bytes ≡ length bytes₀)
+Inv-loop space₀ part₀ bytes₀ turns₀ space part bytes turns =
+    Buffers space part bytes × (length space ≡ length space₀) × (length part ≡ length part₀) × (length bytes ≡ length bytes₀)
 
 abbrev μ-loop : tie.MeasureT-loop
 μ-loop space₀ part₀ bytes₀ turns₀ space part bytes turns = turns

@@ -1,4 +1,5 @@
--- The check walk, `layout::after_free` and `layout::after_live`, meets its contract: each `return` is one law of `proofs/Walking.antt`, at the tests that led to it.
+-- The check walk, `layout::after_free` and `layout::after_live`, meets its contract: each `return` is one law of
+-- `proofs/Walking.antt`, at the tests that led to it.
 -- The measure is the words that are left: a size that is not 0 is at least 4.
 use Prim.Native.Nat.{ℕ, _<_, _≤_, _-_}
 use mathlib.Core.Path.{sym, _∙_}
@@ -48,13 +49,24 @@ abbrev free-calls : ℕ → after-free-lts.Claims
 free-calls t = (size-at-reads.Asked, size-at-reads.Learnt, after-live-below t, after-live.Post)
 
 abbrev live-calls : ℕ → after-live-lts.Claims
-live-calls t =
-    (size-at-reads.Asked, size-at-reads.Learnt, after-live-below t, after-live.Post, wide-reads.Asked, wide-reads.Learnt, after-free-below t, after-free.Post)
+live-calls t = (
+  size-at-reads.Asked,
+  size-at-reads.Learnt,
+  after-live-below t,
+  after-live.Post,
+  wide-reads.Asked,
+  wide-reads.Learnt,
+  after-free-below t,
+  after-free.Post,
+)
 
 -- a size that is not 0 ends within the arena
-free-sized : (t : ℕ) (c : after-free-lts.Else2 (free-calls t) (after-free-at t) after-free.Post) → (leastSize ≤ c .before .size-at .result) × (c .before .size-at .result ≤ length (c .before .before .before .before .args .a .now) - c .before .before .before .before .args .c)
+free-sized : (t : ℕ) (c : after-free-lts.Else2 (free-calls t) (after-free-at t) after-free.Post)
+    → (leastSize ≤ c .before .size-at .result)
+    × (c .before .size-at .result ≤ length (c .before .before .before .before .args .a .now) - c .before .before .before .before .args .c)
 free-sized t c =
-    let x = c .before .before .before .before .args in size-bounds (x .a .now) (x .c) (c .before .size-at .result) (x .want) (c .before .size-at .ensures) (c .if2 .left)
+    let x = c .before .before .before .before .args in
+    size-bounds (x .a .now) (x .c) (c .before .size-at .result) (x .want) (c .before .size-at .ensures) (c .if2 .left)
 
 after-free-returns : (t : ℕ) → after-free-lts.Need-returns (free-calls t) (after-free-at t) after-free.Post
 after-free-returns t c =
@@ -87,7 +99,8 @@ after-free-returns-3 : (t : ℕ) → after-free-lts.Need-returns-3 (free-calls t
 after-free-returns-3 t c =
     let d = c .before .before .before in
     let x = d .before .before .before .before .args in
-    c .after-live .ensures ∙ sym (on-live (x .a .now) (x .c) (d .before .size-at .result) (x .want) (d .before .size-at .ensures) (d .if2 .left) true (c .before .if3 .taken))
+    c .after-live .ensures ∙ sym (on-live (x .a .now) (x .c) (d .before .size-at .result) (x .want) (d .before .size-at .ensures) (d .if2 .left) true
+    (c .before .if3 .taken))
 
 after-free-returns-4 : (t : ℕ) → after-free-lts.Need-returns-4 (free-calls t) (after-free-at t) after-free.Post
 after-free-returns-4 t c =
@@ -96,9 +109,12 @@ after-free-returns-4 t c =
     two-free (x .a .now) (x .c) (d .before .size-at .result) (x .want) (d .before .size-at .ensures) (d .if2 .left) (c .if3 .left)
 
 -- a size that is not 0 ends within the arena
-live-sized : (t : ℕ) (c : after-live-lts.Else2 (live-calls t) (after-live-at t) after-live.Post) → (leastSize ≤ c .before .size-at .result) × (c .before .size-at .result ≤ length (c .before .before .before .before .args .a .now) - c .before .before .before .before .args .c)
+live-sized : (t : ℕ) (c : after-live-lts.Else2 (live-calls t) (after-live-at t) after-live.Post)
+    → (leastSize ≤ c .before .size-at .result)
+    × (c .before .size-at .result ≤ length (c .before .before .before .before .args .a .now) - c .before .before .before .before .args .c)
 live-sized t c =
-    let x = c .before .before .before .before .args in size-bounds (x .a .now) (x .c) (c .before .size-at .result) (x .want) (c .before .size-at .ensures) (c .if2 .left)
+    let x = c .before .before .before .before .args in
+    size-bounds (x .a .now) (x .c) (c .before .size-at .result) (x .want) (c .before .size-at .ensures) (c .if2 .left)
 
 after-live-returns : (t : ℕ) → after-live-lts.Need-returns (live-calls t) (after-live-at t) after-live.Post
 after-live-returns t c =
@@ -140,20 +156,26 @@ after-live-returns-3 : (t : ℕ) → after-live-lts.Need-returns-3 (live-calls t
 after-live-returns-3 t c =
     let d = c .before .before .before in
     let x = d .before .before .before .before .args in
-    c .after-live .ensures ∙ sym (on-live (x .a .now) (x .c) (d .before .size-at .result) (x .want) (d .before .size-at .ensures) (d .if2 .left) false (c .before .if3 .taken))
+    c .after-live .ensures ∙ sym (on-live (x .a .now) (x .c) (d .before .size-at .result) (x .want) (d .before .size-at .ensures)
+    (d .if2 .left) false (c .before .if3 .taken))
 
 after-live-returns-4 : (t : ℕ) → after-live-lts.Need-returns-4 (live-calls t) (after-live-at t) after-live.Post
 after-live-returns-4 t c =
     let d = c .before .before .before .before .before in
     let x = d .before .before .before .before .args in
-    rw (on-free (x .a .now) (x .c) (d .before .size-at .result) (x .want) (d .before .size-at .ensures) (d .if2 .left) (c .before .before .before .if3 .left) (c .before .before .if4 .taken), ← c .before .wide .ensures)
+    rw (
+      on-free (x .a .now) (x .c) (d .before .size-at .result) (x .want) (d .before .size-at .ensures) (d .if2 .left)
+          (c .before .before .before .if3 .left) (c .before .before .if4 .taken),
+      ← c .before .wide .ensures,
+    )
     (c .after-free .ensures)
 
 after-live-returns-5 : (t : ℕ) → after-live-lts.Need-returns-5 (live-calls t) (after-live-at t) after-live.Post
 after-live-returns-5 t c =
     let d = c .before .before .before in
     let x = d .before .before .before .before .args in
-    off-link (x .a .now) (x .c) (d .before .size-at .result) (x .want) (d .before .size-at .ensures) (d .if2 .left) (c .before .if3 .left) (c .if4 .left)
+    off-link (x .a .now) (x .c) (d .before .size-at .result) (x .want) (d .before .size-at .ensures) (d .if2 .left) (c .before .if3 .left)
+    (c .if4 .left)
 
 pub +after-free+after-live-spec : {M : Type 1} → statement M
 +after-free+after-live-spec = close μ-after-free μ-after-live (λ t. after-free-lts.spec (free-calls t) (after-free-at t) after-free.Post

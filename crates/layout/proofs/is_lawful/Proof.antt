@@ -1,4 +1,5 @@
--- `layout::is_lawful` meets its contract: the flag of the first two tests is their `&&`, and with the third that is `lawful`.
+-- `layout::is_lawful` meets its contract: the flag of the first two tests is their `&&`, and with the third that is
+-- `lawful`.
 use mathlib.Core.Path.{_≡_}
 use mathlib.Core.Bool.{_&&_}
 use mathlib.Core.Logic.{⊎-elim}

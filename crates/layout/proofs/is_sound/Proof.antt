@@ -1,4 +1,5 @@
--- `layout::is_sound` meets its contract: the tests that led to each `return` say what `sound` is. A lawful arena has words 0 and 1.
+-- `layout::is_sound` meets its contract: the tests that led to each `return` say what `sound` is. A lawful arena has
+-- words 0 and 1.
 use Prim.Native.Nat.{_≤_}
 use mathlib.Core.Path.{_≡_, sym, _∙_}
 use mathlib.Core.Bool.{true}

@@ -1,4 +1,5 @@
--- `hear` meets its contract. The loop's invariant: the first `taken` bytes have been heard. The measure is how many are left.
+-- `hear` meets its contract. The loop's invariant: the first `taken` bytes have been heard. The measure is how many are
+-- left.
 use Prim.Native.Nat.{ℕ, suc, _+_, _-_, _≤_, _<_}
 use mathlib.Core.Path.{_≡_, refl, ap, _∙_}
 use mathlib.Core.List.{[], _∷_, _++_}
@@ -6,8 +7,8 @@ use native.Mathlib.Omega.{arith}
 use lib.ListN.{length, getD, take, length-take}
 use lib.Seq.{take-suc}
 use borrow.Author.Needs.{needs}
+use Rattle.digits.proofs.Putting.{put-length}
 use Rattle.lines.specs.Boards.{lending, longestReply}
-use Rattle.lines.proofs.Putting.{put-length}
 use Rattle.lines.proofs.Hearing.{HeardSoFar, none-heard, heard-on, answerable-taken, all-heard}
 use Rattle.lines.proofs.hear.Statement.{statement}
 use Rattle.lines.proofs.hear.Tie as tie
@@ -20,18 +21,22 @@ Inv-loop words₀ piece out₀ most heard₀ taken₀ words out heard taken =
 abbrev μ-loop : tie.MeasureT-loop
 μ-loop words₀ piece out₀ most heard₀ taken₀ words out heard taken = most - taken
 
+-- the call, seen from the head of the loop
+abbrev called : tie.At-loop Inv-loop μ-loop → tie.Start Inv-loop μ-loop
+called c = c .before .before .before .before .before .before .before
+
 -- the lent text stays as long as it was
-kept : (c : tie.At-loop Inv-loop μ-loop) → length (c .loop .out) ≡ length (c .before .before .before .before .before .before .before .args .out .now)
+kept : (c : tie.At-loop Inv-loop μ-loop) → length (c .loop .out) ≡ length (called c .args .out .now)
 kept c = put-length (c .loop .inv .2 .puts)
 
 -- there are as many bytes, and there is room for the reply to one more
 room-left : (c : tie.In-loop Inv-loop μ-loop)
     → let l = c .before in
-    let x = l .before .before .before .before .before .before .before .args in
+    let x = called l .args in
     (l .loop .taken < length (x .piece .now)) × (l .loop .heard .written + longestReply ≤ length (l .loop .out))
 room-left c =
     let l = c .before in
-    let x = l .before .before .before .before .before .before .before .args in
+    let x = called l .args in
     let most = l .before .before .before .smaller .ensures in
     let few = l .loop .inv .2 .few in
     let count = length-take (l .loop .taken) (x .piece .now) in
@@ -57,19 +62,25 @@ hear-byte-requires c κs =
     record { lendable = i .before .loop .inv .2 .lendable; roomy = room-left i .1 }
 
 add-taken : tie.Need-add-taken Inv-loop μ-loop
-add-taken c = record { fits = omega (arith, room-left (c .before .before .before .before .before .before .before .before)) }
+add-taken c =
+    let i = c .before .before .before .before .before .before .before .before in
+    record { fits = omega (arith, room-left i) }
 
 loop-less : tie.Need-loop-less Inv-loop μ-loop
-loop-less c = omega (arith, c .before .before .before .before .before .before .before .before .loop-test .taken)
+loop-less c =
+    let i = c .before .before .before .before .before .before .before .before in
+    omega (arith, i .loop-test .taken)
 
 loop-again : tie.Need-loop-again Inv-loop μ-loop
 loop-again c =
     let h = c .before .before .before .before in
     let i = h .before .before .before .before in
     let l = i .before in
-    let x = l .before .before .before .before .before .before .before .args in
-    let next : take (l .loop .taken + 1) (x .piece .now) ≡ take (l .loop .taken) (x .piece .now) ++ getD (x .piece .now) (l .loop .taken) 0 ∷ []
-    = let e : l .loop .taken + 1 ≡ suc (l .loop .taken) = omega arith in ap (λ (k : ℕ). take k (x .piece .now)) e ∙ take-suc (x .piece .now) (l .loop .taken) 0 (room-left i .0) in
+    let piece = called l .args .piece .now in
+    let taken = l .loop .taken in
+    let one-more : taken + 1 ≡ suc taken = omega arith in
+    let next : take (taken + 1) piece ≡ take taken piece ++ getD piece taken 0 ∷ []
+    = ap (λ (k : ℕ). take k piece) one-more ∙ take-suc piece taken 0 (room-left i .0) in
     (omega (arith, i .loop-test .taken), search needs, rw next (heard-on _ _ _ _ _ _ _ _ _ _ _ _ _ _ _ (l .loop .inv .2) (h .hear-byte .ensures)))
 
 same-length : tie.Need-same-length Inv-loop μ-loop
@@ -81,7 +92,7 @@ same-length-2 c = kept (c .before)
 returns : tie.Need-returns Inv-loop μ-loop
 returns c =
     let l = c .before in
-    let x = l .before .before .before .before .before .before .before .args in
+    let x = called l .args in
     let most = l .before .before .before .smaller .ensures in
     let all : l .loop .taken ≡ l .before .before .before .smaller .result = omega (arith, c .loop-test .left, l .loop .inv .0) in
     let bytes = answerable-taken (x .piece .now) (x .out .now) _ (all ∙ most) in

@@ -1,120 +1,105 @@
--- `target_of` meets its contract: a gate is shut, the search found no block, or both gates are open and it found one.
+-- `targets::target_of` meets its contract: its block is not located, the request's gate is shut, or it is open.
 use mathlib.Core.Path.{_≡_, sym, ap, _∙_}
 use mathlib.Core.Bool.{true}
 use lib.ListN.{length}
-use Rattle.layout.specs.Numbers.{lawful}
-use Rattle.layout.specs.Walk.{chunksOf}
-use Rattle.layout.specs.Reasons.{arenaGate, requestGate}
-use Rattle.layout.specs.declared.Gate.the-variants.{Open}
-use Rattle.arena.specs.Spots.{held}
-use Rattle.arena.specs.Inside.Targets.{targetOf}
-use Rattle.arena.specs.Inside.Places.{placeOf}
-use Rattle.arena.proofs.Gates.{gate-open, sound-lawful, request-small}
-use Rattle.arena.specs.declared.places.Place.the-variants.{At}
 use borrow.Author.Needs.{needs}
+use Rattle.layout.specs.Numbers.{lawful}
+use Rattle.layout.specs.Reasons.{requestGate}
+use Rattle.layout.specs.declared.Gate.the-variants.{Open}
+use Rattle.rules.proofs.Gates.{gate-open, sound-lawful, request-small}
+use Rattle.arena.specs.Targets.{located, targetOf}
+use Rattle.arena.specs.declared.targets.Located.the-variants.{Chunk}
+use Rattle.arena.proofs.Locating.{block-located}
 use Rattle.arena.proofs.targets.target_of.Statement.{statement}
 use Rattle.arena.proofs.targets.target_of.Tie as tie
 
--- the arena's gate is open
-arena-open : (c : tie.After-enum-told) → Open ≡ arenaGate (c .before .before .before .before .args .a .now)
-arena-open c = sym (c .enum-told .given .1) ∙ c .before .before .check-arena .ensures
+-- ---- the places of the walk: where the call began, and where its block was located
 
--- what the search answers
-asked : (c : tie.After-find) → let x = c .before .before .before .before .before .before .args in c .find .result ≡ placeOf (held (x .b) (chunksOf (x .a .now)))
-asked c = rw (c .before .wide .ensures) at (c .find .ensures)
+abbrev began : tie.After-located → tie.Start
+began c = c .before .before .before .before
 
--- it found a chunk
-placed : (c : tie.After-place) → let x = c .before .before .before .before .before .before .before .before .args in At (c .place .given .0 .0) (c .place .given .0 .1 .0) ≡ placeOf (held (x .b) (chunksOf (x .a .now)))
-placed c = sym (c .place .given .1) ∙ asked (c .before .before)
+abbrev located-at : tie.After-check-request → tie.After-located
+located-at c = c .before .before .before
+
+-- ---- what is known there
+
+-- where the block stands
+placed : (c : tie.After-located)
+    → let x = began c .args in Chunk (c .located .given .0 .0) (c .located .given .0 .1 .0) ≡ located (x .a .now) (x .b)
+placed c = sym (c .located .given .1) ∙ c .before .before .locate .ensures
+
+-- so the arena has a lawful length
+long : (c : tie.After-located) → lawful (length (began c .args .a .now)) ≡ true
+long c = sound-lawful _ (gate-open _ (sym (block-located _ _ _ _ (placed c) .0)))
 
 -- what the request's gate is
-requested : (c : tie.After-check-request) → let x = c .before .before .before .before .before .before .before .before .before .before .before .args in c .check-request .result ≡ requestGate (length (x .a .now)) (x .n)
-requested c = c .check-request .ensures ∙ ap (requestGate _) (c .before .wide2 .ensures)
+requested : (c : tie.After-check-request)
+    → let x = began (located-at c) .args in c .check-request .result ≡ requestGate (length (x .a .now)) (x .n)
+requested c = c .check-request .ensures ∙ ap (requestGate _) (c .before .wide .ensures)
 
--- it is open too
-request-opens : (c : tie.After-enum-told3)
-    → let x = c .before .before .before .before .before .before .before .before .before .before .before .before .before .args in (lawful (length (x .a .now)) ≡ true) × (Open ≡ requestGate (length (x .a .now)) (x .n))
-request-opens c = (sound-lawful _ (gate-open _ (arena-open (c .before .before .before .before .before .before .before .before .before))), sym (c .enum-told3 .given .1) ∙ requested (c .before .before))
+-- it is open
+request-opens : (c : tie.After-enum-told)
+    → let x = began (located-at (c .before .before)) .args in Open ≡ requestGate (length (x .a .now)) (x .n)
+request-opens c = sym (c .enum-told .given .1) ∙ requested (c .before .before)
 
-check-arena-requires : tie.Need-check-arena-requires
-check-arena-requires c κs = search needs
+locate-requires : tie.Need-locate-requires
+locate-requires c κs = search needs
 
-enum-known-arena : tie.Need-enum-known-arena
-enum-known-arena c = search needs
-
-returns : tie.Need-returns
-unfolding targetOf
-returns c =
-    rw (← (sym (c .before .arena .given .1) ∙ c .before .before .before .check-arena .ensures))
-
-enum-told : tie.Need-enum-told
-enum-told c = search needs
+enum-known-located : tie.Need-enum-known-located
+enum-known-located c = search needs
 
 wide-requires : tie.Need-wide-requires
 wide-requires c κs = search needs
 
-find-requires : tie.Need-find-requires
-find-requires c κs = gate-open _ (arena-open (c .before))
-
-enum-known-place : tie.Need-enum-known-place
-enum-known-place c = search needs
-
-enum-told-2 : tie.Need-enum-told-2
-enum-told-2 c = search needs
-
-returns-2 : tie.Need-returns-2
-unfolding targetOf
-returns-2 c =
-    rw (← arena-open (c .before .before .before .before), ← (sym (c .enum-told2 .given .1) ∙ asked (c .before .before)))
-
-wide-requires-2 : tie.Need-wide-requires-2
-wide-requires-2 c κs = search needs
-
 check-request-requires : tie.Need-check-request-requires
-check-request-requires c κs = sound-lawful _ (gate-open _ (arena-open (c .before .before .before .before .before .before)))
+check-request-requires c κs = long (c .before .before)
 
 enum-known-request : tie.Need-enum-known-request
 enum-known-request c = search needs
 
-returns-3 : tie.Need-returns-3
+returns : tie.Need-returns
 unfolding targetOf
-returns-3 c =
-    rw (← arena-open (c .before .before .before .before .before .before .before .before .before .before), ← placed (c .before .before .before .before .before .before), ← (sym (c .before .request .given .1) ∙ requested (c .before .before .before)))
+returns c =
+    let d = c .before .before .before in
+    rw (← placed (located-at d), ← (sym (c .before .request .given .1) ∙ requested d))
 
-enum-told-3 : tie.Need-enum-told-3
-enum-told-3 c = search needs
+enum-told : tie.Need-enum-told
+enum-told c = search needs
 
-wide-requires-3 : tie.Need-wide-requires-3
-wide-requires-3 c κs = search needs
+wide-requires-2 : tie.Need-wide-requires-2
+wide-requires-2 c κs = search needs
 
 need-requires : tie.Need-need-requires
 need-requires c κs =
-    let r = request-opens (c .before) in rw (c .wide3 .ensures) (request-small _ _ (r .0) (r .1))
+    let d = c .before in
+    rw (c .wide2 .ensures) (request-small _ _ (long (located-at (d .before .before))) (request-opens d))
 
-returns-4 : tie.Need-returns-4
+enum-known-located-2 : tie.Need-enum-known-located-2
+enum-known-located-2 c = search needs
+
+returns-2 : tie.Need-returns-2
 unfolding targetOf
-returns-4 c =
+returns-2 c =
     let d = c .before .before in
-    rw (← arena-open (d .before .before .before .before .before .before .before .before .before), ← placed (d .before .before .before .before .before), ← request-opens d .1, c .need .ensures, c .before .wide3 .ensures)
+    rw (← placed (located-at (d .before .before)), ← request-opens d, c .need .ensures, c .before .wide2 .ensures)
+
+returns-3 : tie.Need-returns-3
+unfolding targetOf
+returns-3 c = rw (← (sym (c .before .located2 .given .1) ∙ c .before .before .before .locate .ensures))
 
 pub target-of-spec : {M : Type 1} → statement M
 target-of-spec =
     tie.close
     (tie.spec
-    check-arena-requires
-    enum-known-arena
-    returns
-    enum-told
+    locate-requires
+    enum-known-located
     wide-requires
-    find-requires
-    enum-known-place
-    enum-told-2
-    returns-2
-    wide-requires-2
     check-request-requires
     enum-known-request
-    returns-3
-    enum-told-3
-    wide-requires-3
+    returns
+    enum-told
+    wide-requires-2
     need-requires
-    returns-4)
+    enum-known-located-2
+    returns-2
+    returns-3)

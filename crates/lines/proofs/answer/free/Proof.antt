@@ -3,10 +3,12 @@ use mathlib.Core.Path.{refl, sym}
 use lib.ListN.{take}
 use lib.Seq.{length-take-le}
 use borrow.Author.Needs.{needs}
-use Rattle.arena.proofs.Refusing.{free-refused-unchanged}
+use Rattle.rules.proofs.Calls.{free-behaves}
+use Rattle.requests.specs.declared.Request.the-variants.{Free}
+use Rattle.answers.specs.Readings.{finishNumbers}
+use Rattle.answers.proofs.Padded.{finish-told}
 use Rattle.lines.specs.Boards.{outcomeOf}
-use Rattle.lines.specs.declared.request.Request.the-variants.{Free}
-use Rattle.lines.proofs.Answering.{finish-fields, lent-answered}
+use Rattle.lines.proofs.Answering.{finish-fields, numbers-fit, lent-answered}
 use Rattle.lines.proofs.answer.free.Statement.{statement}
 use Rattle.lines.proofs.answer.free.Tie as tie
 
@@ -19,8 +21,14 @@ slice-aggregate-free c = sym (length-take-le _ _ (c .before .before .before .pre
 free-requires : tie.Need-free-requires
 free-requires c κs = search needs
 
-put-finish-requires : tie.Need-put-finish-requires
-put-finish-requires c κs = search needs
+finish-numbers-requires : tie.Need-finish-numbers-requires
+finish-numbers-requires c κs = search needs
+
+put-reply-requires : tie.Need-put-reply-requires
+put-reply-requires c κs =
+    let e = c .before .before .before .before in
+    numbers-fit (finishNumbers (e .free .result)) _ _ (c .finish-numbers .ensures) (finish-fields (e .free .result))
+    (e .before .before .before .before .pre .roomy)
 
 same-length : tie.Need-same-length
 same-length c = search needs
@@ -32,9 +40,13 @@ returns : tie.Need-returns
 unfolding outcomeOf
 returns c =
     let d = c .before .before in
-    let e = d .before .before .before .before in
-    let x = e .before .before .before .before .args in
-    lent-answered (Free (x .b)) (x .words .now) (x .lent) (x .at) _ _ _ _ _ refl (free-refused-unchanged (take (x .lent) (x .words .now)) (x .b)) (e .before .before .before .before .pre .lendable) (same-length c) (e .free .ensures) (d .put-finish .ensures) (finish-fields (e .free .result))
+    let m = d .before in
+    let e = m .before .before .before .before in
+    let s = e .before .before .before .before in
+    let x = s .args in
+    lent-answered (Free (x .b)) (x .words .now) (x .lent) (x .at) _ _ _ _ _ refl
+    (free-behaves (take (x .lent) (x .words .now)) (x .b) .unchanged) (s .pre .lendable) (same-length c) (e .free .ensures)
+    (rw (m .finish-numbers .ensures, finish-told) at (d .put-reply .ensures)) (finish-fields (e .free .result))
 
 pub free-spec : {M : Type 1} → statement M
 free-spec =
@@ -43,7 +55,8 @@ free-spec =
     slice-relend-prefix-free
     slice-aggregate-free
     free-requires
-    put-finish-requires
+    finish-numbers-requires
+    put-reply-requires
     same-length
     same-length-2
     returns)

@@ -2,7 +2,9 @@
 use mathlib.Core.Path.{sym}
 use lib.Seq.{length-take-le}
 use borrow.Author.Needs.{needs}
-use Rattle.lines.proofs.Answering.{reported-fields, report-answered}
+use Rattle.lines.proofs.Answering.{reported-fields, numbers-fit, report-answered}
+use Rattle.answers.specs.Readings.{reportedNumbers}
+use Rattle.answers.proofs.Padded.{reported-told}
 use Rattle.lines.proofs.answer.report.Statement.{statement}
 use Rattle.lines.proofs.answer.report.Tie as tie
 
@@ -12,8 +14,14 @@ slice-aggregate-report c = sym (length-take-le _ _ (c .before .before .before .p
 report-requires : tie.Need-report-requires
 report-requires c κs = search needs
 
-put-reported-requires : tie.Need-put-reported-requires
-put-reported-requires c κs = search needs
+reported-numbers-requires : tie.Need-reported-numbers-requires
+reported-numbers-requires c κs = search needs
+
+put-reply-requires : tie.Need-put-reply-requires
+put-reply-requires c κs =
+    let e = c .before .before in
+    numbers-fit (reportedNumbers (e .report .result)) _ _ (c .reported-numbers .ensures) (reported-fields (e .report .result))
+    (e .before .before .before .before .pre .roomy)
 
 same-length : tie.Need-same-length
 same-length c = search needs
@@ -21,11 +29,13 @@ same-length c = search needs
 returns : tie.Need-returns
 returns c =
     let d = c .before .before in
-    let e = d .before .before in
+    let m = d .before in
+    let e = m .before .before in
     let f = e .before .before .before .before in
-    report-answered (f .args .words .now) (f .args .lent) (f .args .at) _ _ _ _ (f .pre .lendable) (e .report .ensures) (d .put-reported .ensures) (reported-fields (e .report .result))
+    report-answered (f .args .words .now) (f .args .lent) (f .args .at) _ _ _ _ (f .pre .lendable)
+    (e .report .ensures) (rw (m .reported-numbers .ensures, reported-told) at (d .put-reply .ensures)) (reported-fields (e .report .result))
 
 pub report-spec : {M : Type 1} → statement M
 report-spec =
     tie.close
-    (tie.spec slice-aggregate-report report-requires put-reported-requires same-length returns)
+    (tie.spec slice-aggregate-report report-requires reported-numbers-requires put-reply-requires same-length returns)

@@ -1,4 +1,5 @@
--- `put_fields` meets its contract. The loop's invariant: the first `i` fields are put. The measure is how many are left.
+-- `put_fields` meets its contract. The loop's invariant: the first `i` fields are put. The measure is how many are
+-- left.
 use Prim.Native.Nat.{ℕ, _+_, _-_, _≤_}
 use mathlib.Core.Path.{_≡_, refl, sym, ap, _∙_}
 use mathlib.Core.List.{List}
@@ -7,7 +8,7 @@ use lib.ListN.{length, take}
 use lib.Seq.{sets, length-sets, take-all}
 use borrow.Author.Needs.{needs}
 use Rattle.lines.specs.Boards.{fieldsText}
-use Rattle.lines.proofs.Putting.{fields-length, fields-on}
+use Rattle.lines.proofs.ReplyTexts.{fields-length, fields-on}
 use Rattle.lines.proofs.reply.put_fields.Statement.{statement}
 use Rattle.lines.proofs.reply.put_fields.Tie as tie
 
@@ -67,7 +68,8 @@ returns c =
     let all : length (x .values .now) ≤ c .before .loop .i = omega arith in
     record {
       ends = ap (λ (n : ℕ). x .at + n) (sym (fields-length (x .values .now)));
-      says = c .before .loop .inv .1 ∙ ap (λ (vs : List ℕ). sets (x .out .now) (x .at) (fieldsText vs)) (take-all (c .before .loop .i) (x .values .now) all);
+      says = c .before .loop .inv .1
+          ∙ ap (λ (vs : List ℕ). sets (x .out .now) (x .at) (fieldsText vs)) (take-all (c .before .loop .i) (x .values .now) all);
     }
 
 pub put-fields-spec : {M : Type 1} → statement M

@@ -1,0 +1,28 @@
+-- Nothing is lost where an answer is padded: its fields are the first of the four, and it has no more.
+use mathlib.Core.Path.{_≡_, refl}
+use Rattle.answers.specs.Readings.{finishNumbers, grantedNumbers, sizedNumbers, reportedNumbers}
+use Rattle.answers.specs.Padded.{padded, answerIn}
+use Rattle.answers.specs.declared.Finish.{Finish}
+use Rattle.answers.specs.declared.Finish.the-variants.{Done, Refused as NotDone}
+use Rattle.answers.specs.declared.Granted.{Granted}
+use Rattle.answers.specs.declared.Granted.the-variants.{Block, Refused as NotGranted}
+use Rattle.answers.specs.declared.Sized.{Sized}
+use Rattle.answers.specs.declared.Sized.the-variants.{Words, Refused as NotSized}
+use Rattle.answers.specs.declared.Reported.{Reported}
+use Rattle.answers.specs.declared.Reported.the-variants.{Counts, Refused as NotReported}
+
+pub finish-told : (r : Finish) → answerIn (padded (finishNumbers r)) ≡ finishNumbers r
+finish-told Done = refl
+finish-told (NotDone why) = refl
+
+pub granted-told : (r : Granted) → answerIn (padded (grantedNumbers r)) ≡ grantedNumbers r
+granted-told (Block block granted) = refl
+granted-told (NotGranted why) = refl
+
+pub sized-told : (r : Sized) → answerIn (padded (sizedNumbers r)) ≡ sizedNumbers r
+sized-told (Words granted) = refl
+sized-told (NotSized why) = refl
+
+pub reported-told : (r : Reported) → answerIn (padded (reportedNumbers r)) ≡ reportedNumbers r
+reported-told (Counts freeWords largest liveBlocks freeChunks) = refl
+reported-told (NotReported why) = refl

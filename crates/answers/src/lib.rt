@@ -1,0 +1,113 @@
+// What the calls answer, and the same in the documents' numbers.
+use layout::Reason;
+ghost use mathlib.Core.Path.{_≡_};
+ghost use Rattle.answers.specs.Readings.{finishNumbers, grantedNumbers, sizedNumbers, reportedNumbers};
+ghost use Rattle.answers.specs.Padded.{padded, paddedRefusal};
+
+// What start and free answer.
+pub enum Finish {
+    Done,
+    Refused(Reason),
+}
+
+// What alloc, resize, relocate and realloc answer.
+pub enum Granted {
+    Block { block: u32, granted: u32 },
+    Refused(Reason),
+}
+
+// What size answers: the granted words.
+pub enum Sized {
+    Words(u32),
+    Refused(Reason),
+}
+
+// What report answers.
+pub enum Reported {
+    Counts {
+        free_words: u32,
+        largest: u32,
+        live_blocks: u32,
+        free_chunks: u32,
+    },
+    Refused(Reason),
+}
+
+// An answer in numbers: its code, how many fields it has, and the fields, behind which all is 0.
+pub struct Numbers {
+    pub code: u32,
+    pub count: usize,
+    pub fields: [u32; 4],
+}
+
+// A refusal that has `count` fields.
+pub fn refusal_numbers(count: usize, why: Reason) -> Numbers
+    ensures { λ r. ⌜ r ≡ paddedRefusal count why ⌝ }
+{
+    Numbers {
+        code: layout::number(why),
+        count,
+        fields: [0, 0, 0, 0],
+    }
+}
+
+// What start and free answer, in numbers.
+pub fn finish_numbers(finish: Finish) -> Numbers
+    ensures { λ r. ⌜ r ≡ padded (finishNumbers finish) ⌝ }
+{
+    match finish {
+        Finish::Done => Numbers {
+            code: 0,
+            count: 0,
+            fields: [0; 4],
+        },
+        Finish::Refused(why) => refusal_numbers(0, why),
+    }
+}
+
+// What alloc, resize, relocate and realloc answer, in numbers.
+pub fn granted_numbers(granted: Granted) -> Numbers
+    ensures { λ r. ⌜ r ≡ padded (grantedNumbers granted) ⌝ }
+{
+    match granted {
+        Granted::Block { block, granted } => Numbers {
+            code: 0,
+            count: 2,
+            fields: [block, granted, 0, 0],
+        },
+        Granted::Refused(why) => refusal_numbers(2, why),
+    }
+}
+
+// What size answers, in numbers.
+pub fn sized_numbers(sized: Sized) -> Numbers
+    ensures { λ r. ⌜ r ≡ padded (sizedNumbers sized) ⌝ }
+{
+    match sized {
+        Sized::Words(granted) => Numbers {
+            code: 0,
+            count: 1,
+            fields: [granted, 0, 0, 0],
+        },
+        Sized::Refused(why) => refusal_numbers(1, why),
+    }
+}
+
+// What report answers, in numbers.
+pub fn reported_numbers(reported: Reported) -> Numbers
+    ensures { λ r. ⌜ r ≡ padded (reportedNumbers reported) ⌝ }
+{
+    match reported {
+        Reported::Counts {
+            free_words,
+            largest,
+            live_blocks,
+            free_chunks,
+        } => Numbers {
+            code: 0,
+            count: 4,
+            fields: [free_words, largest, live_blocks, free_chunks],
+        },
+        Reported::Refused(why) => refusal_numbers(4, why),
+    }
+}

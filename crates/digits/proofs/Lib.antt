@@ -1,0 +1,5 @@
+-- The laws of digits, and of bytes put into a text.
+pub mod Ranges
+pub mod Reading
+pub mod DigitRuns
+pub mod Putting

@@ -1,0 +1,50 @@
+-- Numbers that are written as digits can be read back.
+use Prim.Native.Nat.{ℕ, _+_, _-_, _/_, _%_, _≤_, _<_}
+use mathlib.Core.Path.{_≡_, refl, _∙_}
+use mathlib.Core.Logic.{_⊎_, inl, inr}
+use mathlib.Core.Bool.{Bool, true, false, cond, and-false}
+use native.Mathlib.Omega.{arith}
+use lib.Dec.{leb, ltb}
+use borrow.Author.Tests.{ltb-true, ltb-false, le-leb, lt-leb}
+use Rattle.digits.specs.Digits.{between, worth, numberOf, glyph, twoDigits, fourDigits, fourDigitValues, twoDigitValues}
+use Rattle.digits.proofs.Ranges.{worth-known}
+
+inside : (first last b : ℕ) → first ≤ b → b ≤ last → between first last b ≡ true
+inside first last b least most = rw (le-leb first b least, le-leb b last most)
+
+-- the byte of a digit is one of 0 to 9, or one of A to F
+abbrev pub UpperDigit : ℕ → Type 0
+UpperDigit b = (between 48 57 b ≡ true) ⊎ (between 65 70 b ≡ true)
+
+pub glyph-upper : (d : ℕ) → d < 16 → UpperDigit (glyph d)
+unfolding glyph
+glyph-upper d l = go (ltb d 10) refl
+  where
+    go : (small : Bool) → ltb d 10 ≡ small → UpperDigit (cond small (48 + d) (65 + (d - 10)))
+    go true e = inl (inside 48 57 (48 + d) (omega arith) (omega (arith, ltb-true d 10 e)))
+    go false e = inr (inside 65 70 (65 + (d - 10)) (omega (arith, ltb-false d 10 e)) (omega arith))
+
+-- that byte is worth the digit
+pub worth-glyph : (d : ℕ) → d < 16 → worth (glyph d) ≡ d
+unfolding glyph
+worth-glyph d l = go (ltb d 10) refl
+  where
+    go : (small : Bool) → ltb d 10 ≡ small → worth (cond small (48 + d) (65 + (d - 10))) ≡ d
+    go true e =
+        worth-known (48 + d) true _ _ (inside 48 57 (48 + d) (omega arith) (omega (arith, ltb-true d 10 e))) refl refl ∙ omega arith
+    go false e =
+        let ten = ltb-false d 10 e in
+        let b = 65 + (d - 10) in
+        let no-figure : between 48 57 b ≡ false = rw (lt-leb b 57 (omega arith)) (and-false (leb 48 b)) in
+        let letter : between 65 70 b ≡ true = inside 65 70 b (omega arith) (omega arith) in
+        worth-known b false true _ no-figure letter refl ∙ omega arith
+
+-- two digits tell a number below 256
+pub two-read : (v : ℕ) → v < twoDigitValues → numberOf (twoDigits v) ≡ v
+two-read v fits = rw (worth-glyph (v / 16 % 16) (omega arith), worth-glyph (v % 16) (omega arith)) (omega arith)
+
+-- four digits tell a field
+pub four-read : (v : ℕ) → v < fourDigitValues → numberOf (fourDigits v) ≡ v
+four-read v fits =
+    rw (worth-glyph (v / 256 / 16 % 16) (omega arith), worth-glyph (v / 256 % 16) (omega arith))
+    (rw (worth-glyph (v / 16 % 16) (omega arith), worth-glyph (v % 16) (omega arith)) (omega arith))

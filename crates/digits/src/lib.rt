@@ -1,0 +1,59 @@
+// Hexadecimal digits as bytes: what a byte is worth, and numbers put into a lent text.
+ghost use mathlib.Core.Path.{_≡_};
+ghost use Prim.Native.Nat.{_+_, _≤_, _<_};
+ghost use lib.ListN.{length};
+ghost use Rattle.digits.specs.Digits.{between, twoDigits, fourDigits};
+ghost use Rattle.digits.specs.Digits.{worth as worthOf, glyph as glyphOf};
+ghost use Rattle.digits.specs.Putting.{Puts};
+
+// Whether a byte is one of those from `first` to `last`.
+fn is_between(first: u8, last: u8, b: u8) -> bool
+    ensures { λ r. ⌜ r ≡ between first last b ⌝ }
+{
+    first <= b && b <= last
+}
+
+// What a byte is worth as a digit, 16 where it is none.
+pub fn worth(b: u8) -> u64
+    ensures { λ r. ⌜ r ≡ worthOf b ⌝ }
+{
+    if is_between(b'0', b'9', b) {
+        return (b - b'0') as u64;
+    }
+    if is_between(b'A', b'F', b) {
+        return (b - b'A') as u64 + 10;
+    }
+    if is_between(b'a', b'f', b) {
+        return (b - b'a') as u64 + 10;
+    }
+    16
+}
+
+// The byte of a digit.
+fn glyph(d: u32) -> u8
+    requires { ⌜ d < 16 ⌝ }
+    ensures { λ r. ⌜ r ≡ glyphOf d ⌝ }
+{
+    if d < 10 {
+        return b'0' + d as u8;
+    }
+    b'A' + (d - 10) as u8
+}
+
+// Writes a number in two digits.
+pub fn put_two(out: &mut [u8], at: usize, v: u32)
+    requires { ⌜ at + 2 ≤ length (now out) ⌝ }
+    ensures { λ _. ⌜ Puts at (twoDigits v) (now (out .entry)) (at + 2) (now (out .exit)) ⌝ }
+{
+    out[at] = glyph(v / 16 % 16);
+    out[at + 1] = glyph(v % 16);
+}
+
+// Writes a number in four digits.
+pub fn put_four(out: &mut [u8], at: usize, v: u32)
+    requires { ⌜ at + 4 ≤ length (now out) ⌝ }
+    ensures { λ _. ⌜ Puts at (fourDigits v) (now (out .entry)) (at + 4) (now (out .exit)) ⌝ }
+{
+    put_two(out, at, v / 256);
+    put_two(out, at + 2, v);
+}

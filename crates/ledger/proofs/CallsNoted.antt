@@ -1,0 +1,99 @@
+-- Each call of this project goes as a ledger notes it.
+use mathlib.Core.Path.{_≡_, refl, sym}
+use mathlib.Core.Bool.{Bool, true, false, cond}
+use mathlib.Core.List.{List, []}
+use Prim.Native.Nat.{ℕ}
+use native.Mathlib.Omega.{arith}
+use lib.Dec.{eqb}
+use lib.ListN.{length}
+use borrow.Author.Tests.{eqb-true, ne-eqb}
+use Rattle.layout.specs.Numbers.{need}
+use Rattle.layout.specs.Reasons.{number}
+use Rattle.layout.specs.declared.Reason.{Reason}
+use Rattle.layout.proofs.Reasons.{number-positive}
+use Rattle.rules.specs.Answers.{Outcome, success}
+use Rattle.rules.specs.Rooms.{Needed}
+use Rattle.rules.specs.Causes.{Request}
+use Rattle.rules.proofs.Gates.{sound-lawful, request-needed}
+use Rattle.rules.proofs.Starting.{whole-lawful}
+use Rattle.rules.proofs.CallCases.{Case, refuses, does, Restarts, restarts, start-case, Allots, allots, alloc-case, Frees, frees, free-case, Measures}
+use Rattle.rules.proofs.CallCases.{measures, size-case, Reports, reports, report-case}
+use Rattle.rules.proofs.RegrantCases.{Resizes, resizes, Relocates, moves, Regrants, in-place, elsewhere, resize-case, relocate-case, realloc-case}
+use Rattle.rules.proofs.OldBlock.{still-there}
+use Rattle.ledger.specs.Events.{Call, start, alloc, free, resize, relocate, realloc, size, view, report, call, ours}
+use Rattle.ledger.specs.Ledger.{Ledger, grants, frees, regrants, effect, noted, ifDone, ledgerAfter}
+use Rattle.ledger.specs.Holders.{renamed}
+use Rattle.ledger.proofs.Agreeing.{Agrees}
+use Rattle.ledger.proofs.Going.{Goes, unchanged-goes, written-goes, freed-goes, stays-goes, granted-goes}
+use Rattle.ledger.proofs.Moves.{moved-goes}
+
+-- a call on the words `a` that came to this outcome
+abbrev CallGoes : ℕ → List ℕ → Ledger → Call → Outcome → Type 0
+CallGoes n a ledger c outcome =
+    Goes n a ledger (λ b. ifDone (outcome .answer) (renamed (effect (call c)) (outcome .answer) b) b) (outcome .words)
+    (ledgerAfter (call c) (outcome .answer) ledger)
+
+-- a refusal changes nothing, so all depends on what is done
+case-goes : {fields : ℕ} {n : ℕ} {a : List ℕ} {ledger : Ledger} {Refuses : Reason → Type 0} {Does : List ℕ → List ℕ → Type 0} {outcome : Outcome}
+    (c : Call) → Agrees n a ledger
+    → ((values after : List ℕ) → Does values after
+    → Goes n a ledger (renamed (effect (call c)) (success values)) after (noted (effect (call c)) (success values) ledger))
+    → Case fields a Refuses Does outcome → CallGoes n a ledger c outcome
+case-goes {n = n} {a = a} {ledger = ledger} c g f (refuses why r) =
+    rw (ne-eqb (number why) 0 (omega (arith, number-positive why))) (unchanged-goes n a ledger g)
+case-goes c g f (does {values} {after} d) = f values after d
+
+module _ (n : ℕ) (a : List ℕ) (ledger : Ledger) (g : Agrees n a ledger) where
+  needed : (w : ℕ) → Request a w → Needed (need w)
+  needed w r = request-needed (length a) w (sound-lawful a (g .is-sound)) r
+
+  start-goes : (values after : List ℕ) → Restarts a values after → Goes n a ledger (λ b. b) after []
+  start-goes values after (restarts l) = written-goes n a ledger (λ b. b) _ [] (g .long) (whole-lawful a l) refl (λ b. refl)
+
+  alloc-goes : (w : ℕ) (values after : List ℕ) → Allots a w values after → Goes n a ledger (λ b. b) after (noted grants (success values) ledger)
+  alloc-goes w values after (allots e r pre s post (same, enough)) = granted-goes n a ledger g pre s post (need w) same (needed w r) enough
+
+  free-goes : (b : ℕ) (values after : List ℕ) → Frees a b values after → Goes n a ledger (λ c. c) after (noted (frees b) (success values) ledger)
+  free-goes b values after (frees e pre s post is) = freed-goes n a ledger g b pre s post is
+
+  -- a call that answers the same block renames none
+  same-name : (b c : ℕ) → cond (eqb c b) b c ≡ c
+  same-name b c = go (eqb c b) refl
+    where
+      go : (same : Bool) → eqb c b ≡ same → cond same b c ≡ c
+      go true q = sym (eqb-true c b q)
+      go false q = refl
+
+  resize-goes : (b w : ℕ) (values after : List ℕ) → Resizes a b w values after
+      → Goes n a ledger (renamed (regrants b) (success values)) after (noted (regrants b) (success values) ledger)
+  resize-goes b w values after (resizes e r pre s post is keep k) =
+      stays-goes n a ledger g b pre s post (need w) keep (renamed (regrants b) (success values)) is (needed w r) k (same-name b)
+
+  relocate-goes : (b w : ℕ) (values after : List ℕ) → Relocates a b w values after
+      → Goes n a ledger (renamed (regrants b) (success values)) after (noted (regrants b) (success values) ledger)
+  relocate-goes b w values after (moves e r pre s post is before t behind fit block at-is ks same count shorter) =
+      rw (same, at-is)
+      (moved-goes n a ledger g b pre s post is before t behind (need w) (fit .0) (needed w r) (fit .1) count shorter
+      (still-there a (need w) pre s post before t behind b _ count e (needed w r) is fit (omega arith) refl))
+
+  realloc-goes : (b w : ℕ) (values after : List ℕ) → Regrants a b w values after
+      → Goes n a ledger (renamed (regrants b) (success values)) after (noted (regrants b) (success values) ledger)
+  realloc-goes b w values after (in-place d) = resize-goes b w values after d
+  realloc-goes b w values after (elsewhere d) = relocate-goes b w values after d
+
+  size-goes : (b : ℕ) (values after : List ℕ) → Measures a b values after → Goes n a ledger (λ c. c) after ledger
+  size-goes b values after (measures e pre s post is) = unchanged-goes n a ledger g
+
+  report-goes : (values after : List ℕ) → Reports a values after → Goes n a ledger (λ c. c) after ledger
+  report-goes values after (reports e) = unchanged-goes n a ledger g
+
+  pub call-goes : (c : Call) → CallGoes n a ledger c (ours c a)
+  call-goes start = case-goes start g start-goes (start-case a)
+  call-goes (alloc w) = case-goes (alloc w) g (alloc-goes w) (alloc-case a w)
+  call-goes (free b) = case-goes (free b) g (free-goes b) (free-case a b)
+  call-goes (resize b w) = case-goes (resize b w) g (resize-goes b w) (resize-case a b w)
+  call-goes (relocate b w) = case-goes (relocate b w) g (relocate-goes b w) (relocate-case a b w)
+  call-goes (realloc b w) = case-goes (realloc b w) g (realloc-goes b w) (realloc-case a b w)
+  call-goes (size b) = case-goes (size b) g (size-goes b) (size-case a b)
+  call-goes (view b) = unchanged-goes n a ledger g
+  call-goes report = case-goes report g report-goes (report-case a)

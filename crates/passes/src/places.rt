@@ -1,0 +1,53 @@
+// The two searches: for a block by its number, and for a free chunk that fits.
+use layout::wide;
+ghost use mathlib.Core.Path.{_≡_};
+ghost use mathlib.Core.Bool.{true};
+ghost use Rattle.layout.specs.Walk.{sound, chunksOf};
+ghost use Rattle.rules.specs.Spots.{held, firstFit};
+ghost use Rattle.passes.specs.Places.{placeOf};
+
+// A chunk that a search found: its link word (the list's first word, or the second word of the last free chunk below
+// it), and its start.
+pub enum Place {
+    At(usize, usize),
+    Nowhere,
+}
+
+// The live chunk that block number `b` names: passes the chunks from the first on, as the check walk does.
+pub fn find(a: &[u32], b: usize) -> Place
+    requires { ⌜ sound (now a) ≡ true ⌝ }
+    ensures { λ r. ⌜ r ≡ placeOf (held b (chunksOf (now (a .entry)))) ⌝ }
+{
+    let mut link = layout::LIST_WORD;
+    let mut chunk = layout::FIRST_CHUNK;
+    while chunk < a.len() {
+        if a[chunk + 1] == layout::LIVE_MARK {
+            if chunk + layout::HEADER_WORDS == b {
+                return Place::At(link, chunk);
+            }
+        } else {
+            link = chunk + 1;
+        }
+        chunk += wide(a[chunk]);
+    }
+    Place::Nowhere
+}
+
+// The lowest free chunk of at least `need` words: follows the links from the list's first word on.
+pub fn first_fit(a: &[u32], need: usize) -> Place
+    requires { ⌜ sound (now a) ≡ true ⌝ }
+    ensures { λ r. ⌜ r ≡ placeOf (firstFit need (chunksOf (now (a .entry)))) ⌝ }
+{
+    let mut link = layout::LIST_WORD;
+    let chunk = loop {
+        let next = wide(a[link]);
+        if next == 0 {
+            return Place::Nowhere;
+        }
+        if need <= wide(a[next]) {
+            break next;
+        }
+        link = next + 1;
+    };
+    Place::At(link, chunk)
+}

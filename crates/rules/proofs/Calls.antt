@@ -1,0 +1,71 @@
+-- Each of the calls that answer behaves: the one theorem that every call has.
+use mathlib.Core.Path.{_≡_, refl}
+use mathlib.Core.List.{List}
+use Prim.Native.Nat.{ℕ}
+use Rattle.layout.specs.Reasons.{number}
+use Rattle.layout.specs.declared.Reason.{Reason}
+use Rattle.rules.specs.Answers.{Outcome}
+use Rattle.rules.specs.Calls.{startOn, allocOn, freeOn, resizeOn, relocateOn, reallocOn, sizeOn, reportOn}
+use Rattle.rules.specs.Causes.{StartRefused, AllocRefused, BlockRefused, ResizeRefused, RelocateRefused, ReallocRefused, ReportRefused}
+use Rattle.rules.specs.Behaves.{Behaves}
+use Rattle.rules.proofs.CallCases.{Case, refuses, does, refused-unchanged, refused-zeros, start-case, alloc-case, free-case, size-case}
+use Rattle.rules.proofs.CallCases.{report-case}
+use Rattle.rules.proofs.RegrantCases.{resize-case, relocate-case, realloc-case}
+use Rattle.rules.proofs.Given.{refused-for, done-unless, start-gives, alloc-gives, free-gives, resize-gives, relocate-gives, realloc-gives}
+use Rattle.rules.proofs.Given.{size-gives, report-gives}
+use Rattle.rules.proofs.Keeping.{Kept, kept, same-kept, starts-kept, allots-kept, frees-kept, resizes-kept, relocates-kept, regrants-kept}
+use Rattle.rules.proofs.Keeping.{measures-same, reports-same}
+
+-- a call behaves where it gives each reason that is so, and what it does keeps the arena
+behaves : {fields : ℕ} {a : List ℕ} {Refuses : Reason → Type 0} {Does : List ℕ → List ℕ → Type 0} {outcome : Outcome}
+    → Case fields a Refuses Does outcome
+    → ((why : Reason) → Refuses why → outcome .answer .code ≡ number why) → ((values after : List ℕ) → Does values after → Kept a after)
+    → Behaves fields a Refuses outcome
+behaves case gives keeps =
+    let k = kept keeps case in
+    record {
+      refused = λ why. (refused-for why case, gives why);
+      done = done-unless gives case;
+      unchanged = refused-unchanged case;
+      zeros = refused-zeros case;
+      same-length = k .same-length;
+      still-sound = k .still-sound;
+    }
+
+module _ (a : List ℕ) where
+  pub start-behaves : Behaves 0 a (StartRefused a) (startOn a)
+  start-behaves = behaves (start-case a) (start-gives a) (starts-kept a)
+
+  pub alloc-behaves : (n : ℕ) → Behaves 2 a (AllocRefused a n) (allocOn a n)
+  alloc-behaves n = behaves (alloc-case a n) (alloc-gives a n) (allots-kept a n)
+
+  pub free-behaves : (b : ℕ) → Behaves 0 a (BlockRefused a b) (freeOn a b)
+  free-behaves b = behaves (free-case a b) (free-gives a b) (frees-kept a b)
+
+  pub resize-behaves : (b n : ℕ) → Behaves 2 a (ResizeRefused a b n) (resizeOn a b n)
+  resize-behaves b n = behaves (resize-case a b n) (resize-gives a b n) (resizes-kept a b n)
+
+  pub relocate-behaves : (b n : ℕ) → Behaves 2 a (RelocateRefused a b n) (relocateOn a b n)
+  relocate-behaves b n = behaves (relocate-case a b n) (relocate-gives a b n) (relocates-kept a b n)
+
+  pub realloc-behaves : (b n : ℕ) → Behaves 2 a (ReallocRefused a b n) (reallocOn a b n)
+  realloc-behaves b n = behaves (realloc-case a b n) (realloc-gives a b n) (regrants-kept a b n)
+
+  pub size-behaves : (b : ℕ) → Behaves 1 a (BlockRefused a b) (sizeOn a b)
+  size-behaves b = behaves (size-case a b) (size-gives a b) (λ values after d. same-kept a (measures-same a b values after d))
+
+  pub report-behaves : Behaves 4 a (ReportRefused a) (reportOn a)
+  report-behaves = behaves (report-case a) (report-gives a) (λ values after d. same-kept a (reports-same a values after d))
+
+  -- size and report change nothing, refused or not
+
+  unchanging : {fields : ℕ} {Refuses : Reason → Type 0} {Does : List ℕ → List ℕ → Type 0} {outcome : Outcome} → Case fields a Refuses Does outcome
+      → ((values after : List ℕ) → Does values after → after ≡ a) → outcome .words ≡ a
+  unchanging (refuses why r) same = refl
+  unchanging (does d) same = same _ _ d
+
+  pub size-unchanged : (b : ℕ) → sizeOn a b .words ≡ a
+  size-unchanged b = unchanging (size-case a b) (measures-same a b)
+
+  pub report-unchanged : reportOn a .words ≡ a
+  report-unchanged = unchanging (report-case a) (reports-same a)

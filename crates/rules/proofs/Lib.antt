@@ -1,0 +1,22 @@
+-- The laws of the rules, and the theorems about the calls.
+pub mod Gates
+pub mod Lowest
+pub mod Searches
+pub mod Remainder
+pub mod Joining
+pub mod Rooms
+pub mod Staying
+pub mod Copying
+pub mod OldBlock
+pub mod Starting
+pub mod CallCases
+pub mod RegrantCases
+pub mod ThreeWays
+pub mod Given
+pub mod Keeping
+pub mod Calls
+pub mod ReportCounts
+pub mod Largest
+pub mod Shrinking
+pub mod EmptyViews
+pub mod BlockNumbers

@@ -1,0 +1,31 @@
+-- How large the report's counts can be: no count is more than the words of the chunks counted.
+use mathlib.Core.Path.{_≡_}
+use mathlib.Core.Bool.{true}
+use mathlib.Core.List.{List, [], _∷_}
+use Prim.Native.Nat.{ℕ, _≤_}
+use native.Mathlib.Omega.{arith}
+use Rattle.layout.specs.Numbers.{greatestLength}
+use Rattle.layout.specs.Chunks.{Chunk, free, live, total}
+use Rattle.layout.specs.Walk.{sound, chunksOf}
+use Rattle.layout.proofs.Holds.{Sizes}
+use Rattle.layout.proofs.Round.{sound-chunks}
+use Rattle.rules.specs.Rules.{freeWords, widest, liveBlocks, freeChunks}
+
+-- each of the report's counts of `ks` is at most `n`
+pub record Below (n : ℕ) (ks : List Chunk) : Type 0 where
+  pub words-fit : freeWords ks ≤ n
+  pub widest-fits : widest ks ≤ n
+  pub blocks-fit : liveBlocks ks ≤ n
+  pub chunks-fit : freeChunks ks ≤ n
+
+pub counts-within : (ks : List Chunk) → Sizes ks → Below (total ks) ks
+counts-within [] z = record { words-fit = omega arith; widest-fits = omega arith; blocks-fit = omega arith; chunks-fit = omega arith }
+counts-within (free s ∷ ks) z = let b = counts-within ks (z .2) in omega arith
+counts-within (live s ∷ ks) z = let b = counts-within ks (z .2) in omega arith
+
+-- so the counts of a sound arena are at most the greatest length, and fit a word
+pub counts-small : (a : List ℕ) → sound a ≡ true → Below greatestLength (chunksOf a)
+counts-small a e =
+    let r = sound-chunks a e .law in
+    let b = counts-within (chunksOf a) (r .sizes) in
+    omega arith

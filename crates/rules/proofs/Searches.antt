@@ -1,0 +1,126 @@
+-- What the two searches among the chunks come to: the block that a number names or none, and the lowest free chunk that
+-- fits a need or none.
+use mathlib.Core.Path.{_≡_, refl, ap, _∙_}
+use mathlib.Core.Logic.{_↔_}
+use mathlib.Core.Bool.{Bool, true, false, false≢true}
+use mathlib.Core.List.{List, [], _∷_, _++_}
+use Prim.Native.Nat.{ℕ, _+_, _≤_, _<_}
+use native.Mathlib.Omega.{arith}
+use lib.Dec.{leb}
+use borrow.Author.Tests.{eqb-true, eqb-false, leb-true, leb-false, eq-eqb, ne-eqb}
+use Rattle.layout.specs.Numbers.{firstChunk, headerWords}
+use Rattle.layout.specs.Chunks.{Chunk, free, live, size, total}
+use Rattle.layout.specs.Walk.{sound, chunksOf}
+use Rattle.layout.proofs.Holds.{Sizes, sizes-split}
+use Rattle.layout.proofs.Round.{sound-chunks}
+use Rattle.rules.specs.Spots.{Spot, nowhere, at, lowest, fits, isBlock, firstFit, held}
+use Rattle.rules.specs.Stands.{Stands, NoBlock, GapAt, NoGap}
+use Rattle.rules.proofs.Lowest.{Missed, lowest-at, lowest-hit, lowest-miss}
+
+-- block `b` is the live chunk of `s` words between `pre` and `post`
+abbrev pub BlockAt : List ℕ → ℕ → List Chunk → ℕ → List Chunk → Type 0
+BlockAt a b pre s post = Stands (chunksOf a) pre (live s) post b
+
+-- in a sound arena a block's chunk and those behind it have lawful sizes
+pub block-sizes : (a : List ℕ) (b : ℕ) (pre : List Chunk) (s : ℕ) (post : List Chunk) → sound a ≡ true → BlockAt a b pre s post
+    → Sizes (live s ∷ post)
+block-sizes a b pre s post e is = sizes-split pre (live s ∷ post) (rw (is .same) at (sound-chunks a e .law .sizes)) .1
+
+-- every free chunk of `ks` has fewer than `need` words
+abbrev pub FreeShorter : ℕ → List Chunk → Type 0
+FreeShorter need ks = (pre : List Chunk) (s : ℕ) (post : List Chunk) → ks ≡ pre ++ free s ∷ post → s < need
+
+-- which is to say that there is no gap
+pub no-gap-shorter : (a : List ℕ) (need : ℕ) → NoGap a need ↔ FreeShorter need (chunksOf a)
+no-gap-shorter a need = (
+  λ none pre s post same. shorter need s (λ enough. none pre s post (same, enough)),
+  λ f pre s post gap. omega
+      (arith, f pre s post (gap .0), gap .1),
+)
+  where
+    shorter : (need s : ℕ) → (need ≤ s → ⊥) → s < need
+    shorter need s not = go (leb need s) refl
+      where
+        go : (fits : Bool) → leb need s ≡ fits → s < need
+        go true e = absurd (not (leb-true need s e))
+        go false e = leb-false need s e
+
+pub free-shorter-tail : (need : ℕ) (k : Chunk) (ks : List Chunk) → FreeShorter need (k ∷ ks) → FreeShorter need ks
+free-shorter-tail need k ks f pre s post e = f (k ∷ pre) s post (ap (_∷_ k) e)
+
+-- where the lowest chunk that passes a test is nowhere, none passes it
+missed-at : (test : ℕ → Chunk → Bool) (c : ℕ) (pre : List Chunk) (k : Chunk) (post : List Chunk) (d : ℕ) → d ≡ c + total pre
+    → Missed test c (pre ++ k ∷ post) → test d k ≡ false
+missed-at test c [] k post d e m = ap (λ (i : ℕ). test i k) (omega arith) ∙ m .0
+missed-at test c (l ∷ pre) k post d e m = missed-at test (c + size l) pre k post d (omega arith) (m .1)
+
+none-passes : (test : ℕ → Chunk → Bool) (ks pre : List Chunk) (k : Chunk) (post : List Chunk) → lowest test firstChunk ks ≡ nowhere
+    → ks ≡ pre ++ k ∷ post
+    → test (firstChunk + total pre) k ≡ false
+none-passes test ks pre k post e same =
+    missed-at test firstChunk pre k post (firstChunk + total pre) refl (rw same at (lowest-miss test firstChunk ks e))
+
+-- ---- the search for a block
+
+pub data BlockSearch (a : List ℕ) (b : ℕ) : Spot → Type 0 where
+  no-block : NoBlock a b → BlockSearch a b nowhere
+  a-block : (pre : List Chunk) (s : ℕ) (post : List Chunk) → BlockAt a b pre s post → BlockSearch a b (at pre (live s) post)
+
+pub block-search : (a : List ℕ) (b : ℕ) → BlockSearch a b (held b (chunksOf a))
+block-search a b = go (held b (chunksOf a)) refl
+  where
+    go : (spot : Spot) → held b (chunksOf a) ≡ spot → BlockSearch a b spot
+    go nowhere e = no-block (λ (pre, s, post, is). eqb-false _ b (none-passes (isBlock b) (chunksOf a) pre (live s) post e (is .same))
+        (is .number-is))
+    go (at pre (free s) post) e = absurd (false≢true (lowest-hit (isBlock b) firstChunk (chunksOf a) pre (free s) post e .2))
+    go (at pre (live s) post) e =
+        let h = lowest-hit (isBlock b) firstChunk (chunksOf a) pre (live s) post e in
+        a-block pre s post (record { same = h .0; number-is = eqb-true _ b (h .2) })
+
+pub no-block-held : (a : List ℕ) (b : ℕ) → NoBlock a b → held b (chunksOf a) ≡ nowhere
+no-block-held a b none = go (block-search a b)
+  where
+    go : {spot : Spot} → BlockSearch a b spot → spot ≡ nowhere
+    go (no-block h) = refl
+    go (a-block pre s post is) = absurd (none (pre, s, post, is))
+
+missed-below : (b c : ℕ) (ks : List Chunk) → Sizes ks → b ≡ c + total ks + headerWords → Missed (isBlock b) c ks
+missed-below b c [] z e = tt
+missed-below b c (free s ∷ ks) z e = (refl, missed-below b (c + s) ks (z .2) (omega arith))
+missed-below b c (live s ∷ ks) z e = (ne-eqb (c + headerWords) b (omega arith), missed-below b (c + s) ks (z .2) (omega arith))
+
+-- a live chunk is found by its number
+pub held-at : (ks pre : List Chunk) (s : ℕ) (post : List Chunk) (b : ℕ) → Sizes ks → Stands ks pre (live s) post b → held b ks ≡ at pre (live s) post
+held-at ks pre s post b z st =
+    let y : Sizes (pre ++ live s ∷ post) = rw (st .same) at z in
+    rw (st .same)
+    (lowest-at (isBlock b) firstChunk pre (live s) post (firstChunk + total pre) refl
+    (missed-below b firstChunk pre (sizes-split pre (live s ∷ post) y .0) (omega (arith, st .number-is))) (eq-eqb _ _ (st .number-is)))
+
+pub block-held : (a : List ℕ) (b : ℕ) (pre : List Chunk) (s : ℕ) (post : List Chunk) → sound a ≡ true → BlockAt a b pre s post
+    → held b (chunksOf a) ≡ at pre (live s) post
+block-held a b pre s post e is = held-at (chunksOf a) pre s post b (sound-chunks a e .law .sizes) is
+
+-- ---- the search for a free chunk that fits
+
+pub data GapSearch (a : List ℕ) (need : ℕ) : Spot → Type 0 where
+  no-gap : NoGap a need → GapSearch a need nowhere
+  a-gap : (pre : List Chunk) (s : ℕ) (post : List Chunk) → GapAt a need pre s post → GapSearch a need (at pre (free s) post)
+
+pub gap-search : (a : List ℕ) (need : ℕ) → GapSearch a need (firstFit need (chunksOf a))
+gap-search a need = go (firstFit need (chunksOf a)) refl
+  where
+    go : (spot : Spot) → firstFit need (chunksOf a) ≡ spot → GapSearch a need spot
+    go nowhere e =
+        no-gap (λ pre s post gap. omega (arith, leb-false need s (none-passes (fits need) (chunksOf a) pre (free s) post e (gap .0)), gap .1))
+    go (at pre (live s) post) e = absurd (false≢true (lowest-hit (fits need) firstChunk (chunksOf a) pre (live s) post e .2))
+    go (at pre (free s) post) e =
+        let h = lowest-hit (fits need) firstChunk (chunksOf a) pre (free s) post e in
+        a-gap pre s post (h .0, leb-true need s (h .2))
+
+pub no-gap-fits : (a : List ℕ) (need : ℕ) → NoGap a need → firstFit need (chunksOf a) ≡ nowhere
+no-gap-fits a need none = go (gap-search a need)
+  where
+    go : {spot : Spot} → GapSearch a need spot → spot ≡ nowhere
+    go (no-gap h) = refl
+    go (a-gap pre s post gap) = absurd (none pre s post gap)

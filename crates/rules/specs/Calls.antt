@@ -1,0 +1,93 @@
+-- The nine calls on an arena's words `a`: what each answers, and what each leaves. Reasons are looked for in the order
+-- of their numbers.
+use Prim.Native.Nat.{ℕ, _-_}
+use mathlib.Core.List.{List, [], _∷_}
+use mathlib.Core.Bool.{cond}
+use lib.ListN.{length, getD, take, drop}
+use lib.Dec.{eqb}
+use Rattle.layout.specs.Numbers.{controlWords, headerWords, lawful, need}
+use Rattle.layout.specs.Chunks.{free, written}
+use Rattle.layout.specs.Walk.{chunksOf}
+use Rattle.layout.specs.Reasons.{number, arenaGate, requestGate}
+use Rattle.layout.specs.declared.Reason.{Reason}
+use Rattle.layout.specs.declared.Reason.the-variants.{Length, NotABlock, NoRoom, WouldMove}
+use Rattle.rules.specs.Answers.{Outcome, Result, refused, done, settle, pass}
+use Rattle.rules.specs.Spots.{Spot, nowhere, at, Policy, firstFit, held}
+use Rattle.rules.specs.Rules.{Way, shut, grants, grantFrom, grantedAt, allotted, Regrant, regranted, resized, relocated, released, freeWords}
+use Rattle.rules.specs.Rules.{widest, liveBlocks, freeChunks}
+
+-- a call on a block is refused where there is none
+abbrev pub onBlock : Spot → Result → Result
+onBlock nowhere result = refused NotABlock
+onBlock (at pre k post) result = result
+
+-- a call that grants is refused with `why` where its way is shut
+abbrev pub granted : Reason → Way → Result
+granted why shut = refused why
+granted why (grants block words after) = done (block ∷ words ∷ []) after
+
+-- one free chunk behind the control words; soundness is not asked
+unfoldable pub startOn : List ℕ → Outcome
+startOn a = settle 0 a (cond (lawful (length a)) (done [] (written (free (length a - controlWords) ∷ []) a)) (refused Length))
+
+-- alloc under a policy
+unfoldable pub allocBy : Policy → List ℕ → ℕ → Outcome
+allocBy policy a n =
+    settle 2 a
+    (pass (arenaGate a)
+    (pass (requestGate (length a) n)
+    (granted NoRoom (allotted (grantFrom (need n) (policy (need n) (chunksOf a))) a))))
+
+abbrev pub allocOn : List ℕ → ℕ → Outcome
+allocOn a n = allocBy firstFit a n
+
+-- the block's chunk becomes free, and free neighbours are merged
+unfoldable pub freeOn : List ℕ → ℕ → Outcome
+freeOn a b =
+    let spot = held b (chunksOf a) in
+    settle 0 a (pass (arenaGate a) (onBlock spot (done [] (written (released spot) a))))
+
+-- a call that grants block `b` anew by a rule, and is refused with `why` where the rule's way is shut
+unfoldable pub regrantBy : Reason → Regrant → List ℕ → ℕ → ℕ → Outcome
+regrantBy why rule a b n =
+    let spot = held b (chunksOf a) in
+    settle 2 a
+    (pass (arenaGate a)
+    (onBlock spot
+    (pass (requestGate (length a) n)
+    (granted why (rule b (need n) spot (grantFrom (need n) (firstFit (need n) (chunksOf a))) a)))))
+
+-- the first of the three ways that is open
+abbrev pub reallocOn : List ℕ → ℕ → ℕ → Outcome
+reallocOn a b n = regrantBy NoRoom regranted a b n
+
+-- the first two ways: the block keeps its number, or the call is refused
+abbrev pub resizeOn : List ℕ → ℕ → ℕ → Outcome
+resizeOn a b n = regrantBy WouldMove resized a b n
+
+-- the third way by itself
+abbrev pub relocateOn : List ℕ → ℕ → ℕ → Outcome
+relocateOn a b n = regrantBy NoRoom relocated a b n
+
+-- the resize and, if it is refused with WouldMove, the move on the words that it left. That this is realloc is the
+-- theorem `three-ways`
+abbrev pub resizeElseRelocate : List ℕ → ℕ → ℕ → Outcome
+resizeElseRelocate a b n = let first = resizeOn a b n in cond (eqb (first .answer .code) (number WouldMove)) (relocateOn (first .words) b n) first
+
+-- the granted words of a block
+unfoldable pub sizeOn : List ℕ → ℕ → Outcome
+sizeOn a b =
+    let spot = held b (chunksOf a) in
+    settle 1 a (pass (arenaGate a) (onBlock spot (done (grantedAt spot ∷ []) a)))
+
+-- the part of the arena that is the block: as many words from `b` on as size answers, none where size is refused
+unfoldable pub viewOn : List ℕ → ℕ → List ℕ
+viewOn a b = take (getD (sizeOn a b .answer .values) 0 0) (drop b a)
+
+-- free words, the largest request that would be granted now, live blocks, free chunks
+unfoldable pub reportOn : List ℕ → Outcome
+reportOn a =
+    let ks = chunksOf a in
+    settle 4 a
+    (pass (arenaGate a)
+    (done (freeWords ks ∷ (widest ks - headerWords) ∷ liveBlocks ks ∷ freeChunks ks ∷ []) a))

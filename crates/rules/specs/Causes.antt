@@ -1,0 +1,64 @@
+-- Why a call is refused: what each reason says, call by call. ⊥ stands for what a call never answers.
+use mathlib.Core.Path.{_≡_}
+use mathlib.Core.Bool.{true, false}
+use mathlib.Core.List.{List, _∷_}
+use Prim.Native.Nat.{ℕ, _+_, _≤_, _<_}
+use lib.ListN.{length}
+use Rattle.layout.specs.Numbers.{lawful, greatestRequest, need}
+use Rattle.layout.specs.Chunks.{Chunk, free, live}
+use Rattle.layout.specs.Walk.{sound, chunksOf}
+use Rattle.layout.specs.declared.Reason.{Reason}
+use Rattle.layout.specs.declared.Reason.the-variants.{Length, Damaged, NotABlock, Zero, TooLarge, NoRoom, Frame, WouldMove}
+use Rattle.rules.specs.Stands.{Stands, SomeBlock, NoBlock, NoGap}
+
+-- a request that an arena may be asked for
+abbrev pub Request : List ℕ → ℕ → Type 0
+Request a n = (1 ≤ n) × (n ≤ greatestRequest (length a))
+
+-- what the reasons say of a call on the words `a`: all calls but start have the first two, and `block`, `zero`,
+-- `large`, `room` and `stuck` are the call's own
+abbrev pub Grounds : List ℕ → (block zero large room stuck : Type 0) → Reason → Type 0
+Grounds a block zero large room stuck Length = lawful (length a) ≡ false
+Grounds a block zero large room stuck Damaged = (lawful (length a) ≡ true) × (sound a ≡ false)
+Grounds a block zero large room stuck NotABlock = (sound a ≡ true) × block
+Grounds a block zero large room stuck Zero = (sound a ≡ true) × zero
+Grounds a block zero large room stuck TooLarge = (sound a ≡ true) × large
+Grounds a block zero large room stuck NoRoom = (sound a ≡ true) × room
+Grounds a block zero large room stuck Frame = ⊥
+Grounds a block zero large room stuck WouldMove = (sound a ≡ true) × stuck
+
+abbrev pub StartRefused : List ℕ → Reason → Type 0
+StartRefused a why = (why ≡ Length) × (lawful (length a) ≡ false)
+
+abbrev pub ReportRefused : List ℕ → Reason → Type 0
+ReportRefused a = Grounds a ⊥ ⊥ ⊥ ⊥ ⊥
+
+-- free and size
+abbrev pub BlockRefused : List ℕ → ℕ → Reason → Type 0
+BlockRefused a b = Grounds a (NoBlock a b) ⊥ ⊥ ⊥ ⊥
+
+abbrev pub AllocRefused : List ℕ → ℕ → Reason → Type 0
+AllocRefused a n = Grounds a ⊥ (n ≡ 0) (greatestRequest (length a) < n) (Request a n × NoGap a (need n)) ⊥
+
+-- a chunk of `s` words has fewer than the need, and so it has with those of a free chunk right after it, at the head of
+-- `post`
+pub record Short (s : ℕ) (post : List Chunk) (need : ℕ) : Type 0 where
+  pub own : s < need
+  pub with-next : (t : ℕ) (rest : List Chunk) → post ≡ free t ∷ rest → s + t < need
+
+abbrev pub ShortBlock : List ℕ → ℕ → ℕ → Type 0
+ShortBlock a b need = (pre : List Chunk) × (s : ℕ) × (post : List Chunk) × Stands (chunksOf a) pre (live s) post b × Short s post need
+
+-- the three calls that grant a block anew; they differ in the last two
+abbrev pub RegrantRefused : List ℕ → ℕ → ℕ → (room stuck : Type 0) → Reason → Type 0
+RegrantRefused a b n room stuck =
+    Grounds a (NoBlock a b) (SomeBlock a b × (n ≡ 0)) (SomeBlock a b × (greatestRequest (length a) < n)) room stuck
+
+abbrev pub ResizeRefused : List ℕ → ℕ → ℕ → Reason → Type 0
+ResizeRefused a b n = RegrantRefused a b n ⊥ (Request a n × ShortBlock a b (need n))
+
+abbrev pub RelocateRefused : List ℕ → ℕ → ℕ → Reason → Type 0
+RelocateRefused a b n = RegrantRefused a b n (Request a n × SomeBlock a b × NoGap a (need n)) ⊥
+
+abbrev pub ReallocRefused : List ℕ → ℕ → ℕ → Reason → Type 0
+ReallocRefused a b n = RegrantRefused a b n (Request a n × ShortBlock a b (need n) × NoGap a (need n)) ⊥

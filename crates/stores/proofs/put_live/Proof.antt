@@ -1,0 +1,21 @@
+-- `stores::put_live` meets its contract: the header that `put` stores, with the mark of a live chunk.
+use borrow.Author.Needs.{needs}
+use Rattle.stores.proofs.put_live.Statement.{statement}
+use Rattle.stores.proofs.put_live.Tie as tie
+
+wide-requires : tie.Need-wide-requires
+wide-requires c κs = search needs
+
+put-requires : tie.Need-put-requires
+put-requires c κs = search needs
+
+same-length : tie.Need-same-length
+same-length c = search needs
+
+returns : tie.Need-returns
+returns c =
+    let d = c .before .before in
+    rw (← d .before .wide .ensures) (d .put .ensures)
+
+pub put-live-spec : {M : Type 1} → statement M
+put-live-spec = tie.close (tie.spec wide-requires put-requires same-length returns)

@@ -1,0 +1,2 @@
+-- The laws of trials.
+pub mod Trials

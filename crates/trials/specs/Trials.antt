@@ -1,0 +1,83 @@
+-- What a trial comes to: the numbers of the answer, the words that are handed back, and the arena afterwards.
+use Prim.Native.Nat.{ℕ}
+use mathlib.Core.Path.{_≡_}
+use mathlib.Core.Logic.{_≢_}
+use mathlib.Core.Bool.{Bool, cond, _||_}
+use mathlib.Core.List.{List, [], _∷_}
+use lib.ListN.{length, getD, take}
+use lib.Dec.{eqb}
+use Rattle.layout.specs.declared.Reason.the-variants.{Frame}
+use Rattle.rules.specs.Answers.{Answer, Outcome, success, refusal}
+use Rattle.rules.specs.Calls.{startOn, allocOn, freeOn, resizeOn, relocateOn, reallocOn, reportOn, sizeOn, viewOn}
+use Rattle.answers.specs.Padded.{padded}
+use Rattle.answers.specs.declared.Numbers.{Numbers}
+use Rattle.trials.specs.declared.replies.Reply.{Reply}
+
+-- ---- the calls that have an answer
+
+-- a number that names no call is answered 7, and nothing changes
+abbrev pub unknown : List ℕ → Outcome
+unknown a = record { answer = refusal 0 Frame; words = a }
+
+-- what call number `call` comes to, on block `b` or for `n` words; 7 and 8 are the views, below
+unfoldable pub outcomeOf : ℕ → ℕ → ℕ → List ℕ → Outcome
+outcomeOf call b n a =
+    cond (eqb call 1) (startOn a)
+    (cond (eqb call 2) (allocOn a n)
+    (cond (eqb call 3) (freeOn a b)
+    (cond (eqb call 4) (reallocOn a b n)
+    (cond (eqb call 5) (reportOn a)
+    (cond (eqb call 6) (sizeOn a b)
+    (cond (eqb call 9) (resizeOn a b n)
+    (cond (eqb call 10) (relocateOn a b n)
+    (unknown a))))))))
+
+-- the promise of `answer`: the numbers of the outcome, and its words
+pub record Settles (outcome : Outcome) (x : Numbers) (words : List ℕ) : Type 0 where
+  pub answers : x ≡ padded (outcome .answer)
+  pub leaves : words ≡ outcome .words
+
+-- ---- the calls that hand words back
+
+-- the list `l` begins with these words, of which there are `count`
+pub record Begins (l : List ℕ) (count : ℕ) (words : List ℕ) : Type 0 where
+  pub counts : count ≡ length words
+  pub holds : take count l ≡ words
+
+-- the promise of `overwrite`: what view_mut hands back is copied, and the arena keeps its length
+pub record Overwrites (a : List ℕ) (b count : ℕ) (copy after : List ℕ) : Type 0 where
+  pub hands : Begins copy count (viewOn a b)
+  pub keeps : length after ≡ length a
+
+-- ---- all calls
+
+-- 7 is view, 8 is view_mut
+abbrev pub isView : ℕ → Bool
+isView call = eqb call 7 || eqb call 8
+
+-- the answer to a trial: a view has code 0 and no fields
+abbrev pub answerTo : ℕ → ℕ → ℕ → List ℕ → Answer
+answerTo call b n a = cond (isView call) (success []) (outcomeOf call b n a .answer)
+
+-- the words that a trial hands back
+abbrev pub partOf : ℕ → ℕ → List ℕ → List ℕ
+partOf call b a = cond (isView call) (viewOn a b) []
+
+-- the words after a trial: a view leaves them as they were. (Those that are stored through a view_mut are not spoken
+-- of.)
+abbrev pub wordsAfter : ℕ → ℕ → ℕ → List ℕ → List ℕ
+wordsAfter call b n a = cond (eqb call 7) a (outcomeOf call b n a .words)
+
+-- the promise of a reply to a trial on the words `a`. Of the arena after a view_mut it says the length alone: no
+-- contract can say what it holds once words were stored through the part
+pub record Replies (call b n : ℕ) (a : List ℕ) (reply : Reply) (after copy : List ℕ) : Type 0 where
+  pub answers : reply .answered ≡ padded (answerTo call b n a)
+  pub hands : Begins copy (reply .count) (partOf call b a)
+  pub keeps : length after ≡ length a
+  pub leaves : call ≢ 8 → after ≡ wordsAfter call b n a
+
+-- the numbers with which a reply begins
+abbrev pub numbersOf : Reply → List ℕ
+numbersOf reply =
+    let x = reply .answered in
+    x .code ∷ getD (x .fields) 0 0 ∷ getD (x .fields) 1 0 ∷ getD (x .fields) 2 0 ∷ getD (x .fields) 3 0 ∷ reply .count ∷ []

@@ -1,0 +1,36 @@
+-- A need is granted from the lowest free chunk that fits.
+use mathlib.Core.Path.{_≡_, refl}
+use mathlib.Core.List.{List}
+use Prim.Native.Nat.{ℕ, _≤_}
+use native.Mathlib.Omega.{arith}
+use Rattle.layout.specs.Numbers.{greatestLength}
+use Rattle.layout.specs.Chunks.{Chunk, free}
+use Rattle.layout.specs.Walk.{chunksOf}
+use Rattle.rules.specs.Spots.{at, firstFit}
+use Rattle.rules.proofs.Remainder.{cut-numbers}
+use Rattle.passes.specs.Places.{placeOf, Placed}
+use Rattle.passes.specs.declared.places.Place.the-variants.{Nowhere}
+use Rattle.passes.proofs.Standing.{reads}
+use Rattle.passes.proofs.Finding.{found-nowhere}
+use Rattle.stores.specs.Taken.{Took}
+use Rattle.stores.specs.declared.taking.Piece.{Piece}
+use Rattle.ways.specs.Ways.{Follows, allotting, grantsOf}
+use Rattle.ways.specs.declared.Way.the-variants.{Shut}
+
+-- the live chunk that was taken is in the arena
+pub took-small : {a : List ℕ} {pre : List Chunk} {s : ℕ} {post : List Chunk} {link chunk need : ℕ} {piece : Piece} {after : List ℕ}
+    → Placed a pre (free s) post link chunk → need ≤ s
+    → Took a pre s post need piece after → (piece .chunk ≤ greatestLength) × (piece .words ≤ greatestLength)
+took-small st enough t =
+    let r = reads _ _ _ _ _ _ st in
+    let w = cut-numbers _ _ enough .within in
+    (omega (arith, t .starts, r .at-is), omega (arith, t .has))
+
+module _ (a : List ℕ) (need : ℕ) where
+  pub allot-shut : Nowhere ≡ placeOf (firstFit need (chunksOf a)) → Follows (allotting need a) a Shut a
+  allot-shut e = rw (found-nowhere (firstFit need (chunksOf a)) e) (record { answers = refl; leaves = refl })
+
+  pub allot-grants : (pre : List Chunk) (s : ℕ) (post : List Chunk) (piece : Piece) (after : List ℕ)
+      → firstFit need (chunksOf a) ≡ at pre (free s) post → Took a pre s post need piece after
+      → Follows (allotting need a) a (grantsOf piece) after
+  allot-grants pre s post piece after spot t = rw spot (record { answers = rw (t .starts, t .has); leaves = t .leaves })

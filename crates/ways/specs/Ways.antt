@@ -1,0 +1,44 @@
+-- Which of the ways of the rules was followed. No public contract cites this file.
+use Prim.Native.Nat.{ℕ, _+_, _-_}
+use mathlib.Core.Path.{_≡_}
+use mathlib.Core.List.{List}
+use Rattle.layout.specs.Numbers.{headerWords}
+use Rattle.layout.specs.Chunks.{Chunk, live}
+use Rattle.layout.specs.Walk.{chunksOf}
+use Rattle.rules.specs.Spots.{at, firstFit}
+use Rattle.rules.specs.Rules.{Way as RuleWay}
+use Rattle.rules.specs.Rules.{shut, grants, grantFrom, allotted, Regrant}
+use Rattle.passes.specs.Places.{Placed}
+use Rattle.stores.specs.declared.taking.Piece.{Piece}
+use Rattle.ways.specs.declared.Way.{Way}
+use Rattle.ways.specs.declared.Way.the-variants.{Grants, Shut}
+
+abbrev pub wayAnswer : RuleWay → Way
+wayAnswer shut = Shut
+wayAnswer (grants block granted words) = Grants block granted
+
+abbrev pub wayWords : RuleWay → List ℕ → List ℕ
+wayWords shut a = a
+wayWords (grants block granted words) a = words
+
+-- a way of the rules was followed
+pub record Follows (way : RuleWay) (a : List ℕ) (answer : Way) (after : List ℕ) : Type 0 where
+  pub answers : answer ≡ wayAnswer way
+  pub leaves : after ≡ wayWords way a
+
+-- a new block of the lowest free chunk that fits
+abbrev pub allotting : ℕ → List ℕ → RuleWay
+allotting need a = allotted (grantFrom need (firstFit need (chunksOf a))) a
+
+-- the way that a rule gives the live chunk of `s` words between `pre` and `post`
+abbrev pub wayBy : Regrant → ℕ → ℕ → List ℕ → List Chunk → ℕ → List Chunk → RuleWay
+wayBy rule b need a pre s post = rule b need (at pre (live s) post) (grantFrom need (firstFit need (chunksOf a))) a
+
+-- for the live chunk that stands at `chunk`, the way that a rule gives it was followed
+abbrev pub FollowsAt : Regrant → List ℕ → ℕ → ℕ → ℕ → Way → List ℕ → Type 0
+FollowsAt rule a link chunk need answer after =
+    (pre : List Chunk) (s : ℕ) (post : List Chunk) → Placed a pre (live s) post link chunk
+    → Follows (wayBy rule (chunk + headerWords) need a pre s post) a answer after
+
+abbrev pub grantsOf : Piece → Way
+grantsOf piece = Grants (piece .chunk + headerWords) (piece .words - headerWords)

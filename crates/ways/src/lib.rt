@@ -1,0 +1,42 @@
+// The ways to grant: a new block (`allot`), and a block anew, where it stands (`staying`) or elsewhere (`moving`).
+pub mod moving;
+pub mod staying;
+
+use passes::places::Place;
+use stores::taking::Piece;
+ghost use mathlib.Core.Path.{_≡_};
+ghost use mathlib.Core.Bool.{true};
+ghost use Prim.Native.Nat.{_≤_};
+ghost use Rattle.layout.specs.Numbers.{greatestLength};
+ghost use Rattle.layout.specs.Walk.{sound};
+ghost use Rattle.rules.specs.Rooms.{Needed};
+ghost use Rattle.ways.specs.Ways.{Follows, allotting, grantsOf};
+
+// What a call that grants comes to: a block and its granted words, or nothing, and then nothing was changed.
+pub enum Way {
+    Grants(u32, u32),
+    Shut,
+}
+
+// A live chunk as a grant.
+pub(crate) fn grants(piece: Piece) -> Way
+    requires { ⌜ (piece .chunk ≤ greatestLength) × (piece .words ≤ greatestLength) ⌝ }
+    ensures { λ r. ⌜ r ≡ grantsOf piece ⌝ }
+{
+    Way::Grants(
+        (piece.chunk + layout::HEADER_WORDS) as u32,
+        layout::block_words(piece.words) as u32,
+    )
+}
+
+// Grants a need from the lowest free chunk that fits.
+pub fn allot(a: &mut [u32], need: usize) -> Way
+    requires { ⌜ (sound (now a) ≡ true) × Needed need ⌝ }
+    ensures { λ r. ⌜ Follows (allotting need (now (a .entry))) (now (a .entry)) r (now (a .exit)) ⌝ }
+{
+    let place = passes::places::first_fit(a, need);
+    let Place::At(link, chunk) = place else {
+        return Way::Shut;
+    };
+    grants(stores::taking::take(a, link, chunk, need))
+}

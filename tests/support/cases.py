@@ -1,0 +1,99 @@
+"""Cases for the program `cases`: how one is written, and what the model replies to it.
+
+A case is one call on one arena: the words call, b, n, length, then the arena. The reply is the code, four
+fields, the length of the part that a view handed back, that part, and the arena after the call.
+"""
+
+import struct
+from collections import namedtuple
+
+from . import model
+
+START, ALLOC, FREE, REALLOC, REPORT, SIZE, VIEW, VIEW_MUT, RESIZE, RELOCATE = range(1, 11)
+NAMES = ["?", "start", "alloc", "free", "realloc", "report", "size", "view", "view_mut", "resize", "relocate"]
+LONGEST_CASE = 16400
+FIELDS = 4
+
+# Three calls that are asked together, with the same numbers and arena: the last is done as the first is or, where that
+# would move the block, as the second is.
+TOGETHER = (RESIZE, RELOCATE, REALLOC)
+
+# The codes that the three can have then.
+CODES_TOGETHER = [(code, code, code) for code in range(6)] + [(0, 6, 0), (8, 0, 0), (8, 6, 6)]
+
+Case = namedtuple("Case", "call block asked words")
+
+CALLS = {
+    START: lambda case: model.on_words(model.start, case.words),
+    ALLOC: lambda case: model.on_words(model.alloc, case.words, case.asked),
+    FREE: lambda case: model.on_words(model.free, case.words, case.block),
+    REALLOC: lambda case: model.on_words(model.realloc, case.words, case.block, case.asked),
+    REPORT: lambda case: model.on_words(model.report, case.words),
+    SIZE: lambda case: model.on_words(model.size, case.words, case.block),
+    VIEW: lambda case: seen(case),
+    VIEW_MUT: lambda case: overwritten(case),
+    RESIZE: lambda case: model.on_words(model.resize, case.words, case.block, case.asked),
+    RELOCATE: lambda case: model.on_words(model.relocate, case.words, case.block, case.asked),
+}
+
+
+def seen(case):
+    """A view: the part of the arena that is the block, and no word changed."""
+    return model.Answer(model.DONE, (), model.view(model.Lent(case.words), case.block), case.words)
+
+
+def overwritten(case):
+    """A view to write into: every word of the part handed back becomes the number asked."""
+    answer = seen(case)
+    after = list(case.words)
+    after[case.block:case.block + len(answer.part)] = [case.asked] * len(answer.part)
+    return answer._replace(words=after)
+
+
+def answer_to(case):
+    """What the model answers; a call of another number is malformed and changes nothing."""
+    if case.call not in CALLS:
+        return model.Answer(model.FRAME, (), [], case.words)
+    return CALLS[case.call](case)
+
+
+def asked_together(asked):
+    """Where among these cases the three calls above are asked together."""
+    for at in range(len(asked) - 2):
+        three = asked[at:at + 3]
+        if tuple(case.call for case in three) == TOGETHER and three[0][1:] == three[1][1:] == three[2][1:]:
+            yield at
+
+
+def packed(words):
+    """Words as bytes, the low byte first."""
+    return struct.pack(f"<{len(words)}I", *words)
+
+
+def case_bytes(case):
+    """A case as the program reads it."""
+    return packed([case.call, case.block, case.asked, len(case.words), *case.words])
+
+
+def cases_in(text):
+    """The cases that these bytes hold, up to one that is cut short."""
+    found = []
+    at = 0
+    while at + 16 <= len(text):
+        call, block, asked, length = struct.unpack_from("<4I", text, at)
+        if at + 16 + 4 * length > len(text):
+            break
+        found.append(Case(call, block, asked, list(struct.unpack_from(f"<{length}I", text, at + 16))))
+        at += 16 + 4 * length
+    return found
+
+
+def reply_bytes(answer):
+    """A reply as the program writes it."""
+    fields = list(answer.fields) + [0] * (FIELDS - len(answer.fields))
+    return packed([answer.code, *fields, len(answer.part), *answer.part, *answer.words])
+
+
+def name_of(call):
+    """The call's name, for messages."""
+    return NAMES[call] if call in CALLS else f"call number {call}"

@@ -1,0 +1,71 @@
+"""Tries the drivers on faulty programs, each of which has to be seen."""
+
+import os
+import shlex
+import subprocess
+import sys
+import tempfile
+from collections import namedtuple
+
+from . import programs
+from .driver import Difference
+from .stand_in import LATE
+
+# What a stand-in can do wrong in a resize, a move, or the realloc that is made of them.
+ANOTHER_LENGTH = ["tail", "cut", "two", "link", "wipe", "early", "less", "all", "asked", "stays", "moves", "never",
+                  "order", "lacks", "stores"]
+
+# What it can do wrong in any report. (A list followed for 255 links only, "manylinks", takes a longer list to be seen.)
+ANOTHER_COUNT = ["lastlink", "last", "header"]
+
+# A driver, how much it compares here, a program, and the faults of a stand-in for it that the driver has to see.
+Trial = namedtuple("Trial", "driver count program faults")
+
+# The driver of the document's rows runs both programs.
+BOTH = "test_document_rows"
+
+# The trials, by what the drivers compare: rows written by hand, long runs of lines, and single calls on many arenas.
+ROWS = [
+    Trial(BOTH, 1, "board", ["digit", "missing", "extra", "tail", *ANOTHER_COUNT]),
+    Trial(BOTH, 1, "cases", ["word", "missing", "extra", *ANOTHER_COUNT]),
+    Trial("test_pages", 1, "board", ["digit", "missing", "tail", *ANOTHER_COUNT]),
+    Trial("test_call_rows", 1, "cases", ["word", "missing", "extra", "believe", "clear", "byte", "manylinks",
+                                         *ANOTHER_COUNT, *ANOTHER_LENGTH]),
+]
+LINES = [
+    Trial("test_random_lines", 3000, "board", ["digit", "missing", "extra", "tail", "two", "link", "early", "never",
+                                               LATE, *ANOTHER_COUNT]),
+    Trial("test_full_board", 1, "board", ["digit", "manylinks"]),
+]
+ARENAS = [
+    Trial("test_small_arenas", 10000, "cases", ["word", "missing", "extra", "clear", *ANOTHER_COUNT, *ANOTHER_LENGTH]),
+    Trial("test_damaged_arenas", 3000, "cases", ["word", "missing", "extra", "believe", "clear", "manylinks",
+                                                 *ANOTHER_COUNT, *ANOTHER_LENGTH]),
+]
+
+
+def sees_difference(trial, fault, seed, folder):
+    """Whether a driver tells of a difference on stand-ins; None when it says neither, or when a stand-in broke down."""
+    command = [sys.executable, os.path.join(programs.TESTS, trial.driver + ".py")]
+    command += ["--seed", str(seed), "--count", str(trial.count), "--keep", folder]
+    command += ["--patience", "0.5" if fault == LATE else "10"]
+    both = trial.driver == BOTH
+    for program in ("board", "cases") if both else (trial.program,):
+        words = [sys.executable, "-m", "support.stand_in", program]
+        words += [fault] if fault and program == trial.program else []
+        command += ["--program-" + program if both else "--program", shlex.join(words)]
+    ended = subprocess.run(command, stdout=subprocess.PIPE, env=dict(os.environ, PYTHONPATH=programs.TESTS))
+    if b"the program ended with status" in ended.stdout:
+        return None
+    return {(0, False): False, (1, True): True}.get((ended.returncode, b": DIFFERENCE " in ended.stdout))
+
+
+def check_drivers(trials, seed):
+    """Each driver must see a difference on a stand-in with a fault and none on a true one; gives how many faults."""
+    with tempfile.TemporaryDirectory() as folder:
+        for trial in trials:
+            for fault in ["", *trial.faults]:
+                if sees_difference(trial, fault, seed, folder) is not (fault != ""):
+                    told = f"a {trial.program} with the fault '{fault or 'none'}'"
+                    raise Difference(f"{trial.driver} is wrong about {told}")
+    return sum(len(trial.faults) for trial in trials)

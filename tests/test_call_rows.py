@@ -1,0 +1,322 @@
+"""Holds the program `cases` and the model to rows of resize, the move, realloc and report, by hand with all words."""
+
+from support import driver, model
+from support.cases import REALLOC, RELOCATE, REPORT, RESIZE, Case
+from support.comparing import run_rows
+
+# Arenas with which more than one function of rows begins.
+BESIDE_FREE = "18 12 | 10 live 1004 1005 1006 1007 1008 1009 1010 1011 | 6 0 1014 1015 1016 1017"
+BELOW_TWO = "22 2 | 8 0 1004 1005 1006 1007 1008 1009 | 4 live 1012 1013 | 8 live 1016 1017 1018 1019 1020 1021"
+SHORT_GAP = "16 8 | 6 live 1004 1005 1006 1007 | 4 0 1010 1011 | 4 live 1014 1015"
+
+
+def words(text):
+    """The words of an arena as they are written here: a bar before each chunk, `live` for the mark of a live one."""
+    return [model.LIVE_MARK if word == "live" else int(word) for word in text.replace("|", " ").split()]
+
+
+def done(call, block, asked, before, fields, after):
+    """A case that is done, with the numbers that are answered, and the words that it leaves."""
+    return Case(call, block, asked, words(before)), model.Answer(0, fields, [], words(after))
+
+
+def refused(call, block, asked, before, code):
+    """A case that is refused: its numbers are 0, and every word stays."""
+    return Case(call, block, asked, words(before)), model.Answer(code, (0, 0), [], words(before))
+
+
+def reported(before, fields):
+    """A report that is done, with free words, largest request, live blocks and free chunks: every word stays."""
+    return done(REPORT, 0, 0, before, fields, before)
+
+
+def counted(first, last):
+    """The words of these numbers, each 1000 more than its number, as they are written here."""
+    return " ".join(str(1000 + at) for at in range(first, last + 1))
+
+
+def live_neighbour_rows():
+    """A resize that would move leaves every word, and realloc moves: a live chunk or the end comes after the block."""
+    before = "20 2 | 10 0 1004 1005 1006 1007 1008 1009 1010 1011 | 4 live 1014 1015 | 4 live 1018 1019"
+    whole = "20 12 | 10 live 1014 1015 1006 1007 1008 1009 1010 1011 | 4 0 1014 1015 | 4 live 1018 1019"
+    split = "20 2 | 4 16 1004 1005 | 6 live 1018 1019 1010 1011 | 4 live 1014 1015 | 4 0 1018 1019"
+    yield refused(RESIZE, 14, 5, before, 8)
+    yield done(RELOCATE, 14, 5, before, (4, 8), whole)
+    yield done(REALLOC, 14, 5, before, (4, 8), whole)
+    yield refused(RESIZE, 18, 3, before, 8)
+    yield done(RELOCATE, 18, 3, before, (8, 4), split)
+    yield done(REALLOC, 18, 3, before, (8, 4), split)
+
+
+def short_neighbour_rows():
+    """A free chunk after the block is enough for 6 words and two short for 7, and no gap holds those."""
+    before = "20 2 | 4 10 1004 1005 | 4 live 1008 1009 | 4 0 1012 1013 | 6 live 1016 1017 1018 1019"
+    grown = "20 2 | 4 0 1004 1005 | 8 live 1008 1009 4 0 1012 1013 | 6 live 1016 1017 1018 1019"
+    yield refused(RESIZE, 8, 7, before, 8)
+    yield refused(RELOCATE, 8, 7, before, 6)
+    yield refused(REALLOC, 8, 7, before, 6)
+    yield done(RESIZE, 8, 6, before, (8, 6), grown)
+    yield refused(RELOCATE, 8, 6, before, 6)
+    yield done(REALLOC, 8, 6, before, (8, 6), grown)
+
+
+def passed_neighbour_rows():
+    """A free chunk after the block is too short for 7 words, and the block moves to a gap that holds them."""
+    before = ("24 2 | 10 16 1004 1005 1006 1007 1008 1009 1010 1011 | 4 live 1014 1015 | 4 0 1018 1019"
+              " | 4 live 1022 1023")
+    moved = ("24 12 | 10 live 1014 1015 1006 1007 1008 1009 1010 1011 | 8 0 1014 1015 4 0 1018 1019"
+             " | 4 live 1022 1023")
+    yield refused(RESIZE, 14, 7, before, 8)
+    yield done(RELOCATE, 14, 7, before, (4, 8), moved)
+    yield done(REALLOC, 14, 7, before, (4, 8), moved)
+
+
+def lowest_gap_rows():
+    """A move takes the lowest gap that fits, not the closest fit above; no resize grows into that: it is not next."""
+    before = ("32 2 | 4 10 1004 1005 | 4 live 1008 1009 | 8 26 1012 1013 1014 1015 1016 1017 | 4 live 1020 1021"
+              " | 4 live 1024 1025 | 6 0 1028 1029 1030 1031")
+    moved = ("32 2 | 4 18 1004 1005 | 4 live 1008 1009 | 8 live 1020 1021 1014 1015 1016 1017 | 4 26 1020 1021"
+             " | 4 live 1024 1025 | 6 0 1028 1029 1030 1031")
+    yield refused(RESIZE, 20, 3, before, 8)
+    yield done(RELOCATE, 20, 3, before, (12, 6), moved)
+    yield done(REALLOC, 20, 3, before, (12, 6), moved)
+
+
+def grow_rows():
+    """A block grows by part of the free chunk after it, by all of it, or by all of it with two words over."""
+    part = "18 14 | 12 live 1004 1005 1006 1007 1008 1009 1010 1011 6 0 | 4 0 1016 1017"
+    full = "18 0 | 16 live 1004 1005 1006 1007 1008 1009 1010 1011 6 0 1014 1015 1016 1017"
+    yield done(RESIZE, 4, 9, BESIDE_FREE, (4, 10), part)
+    yield done(RESIZE, 4, 10, BESIDE_FREE, (4, 10), part)
+    yield done(RESIZE, 4, 11, BESIDE_FREE, (4, 14), full)
+    yield done(RESIZE, 4, 14, BESIDE_FREE, (4, 14), full)
+
+
+def cut_rows():
+    """A tail of four is cut off, one of two or none is not, whether a live chunk comes after it or the end."""
+    before = "18 0 | 12 live 1004 1005 1006 1007 1008 1009 1010 1011 1012 1013 | 4 live 1016 1017"
+    cut = "18 10 | 8 live 1004 1005 1006 1007 1008 1009 | 4 0 1012 1013 | 4 live 1016 1017"
+    at_end = "12 2 | 4 0 1004 1005 | 6 live 1008 1009 1010 1011"
+    for call in (RESIZE, REALLOC):
+        yield done(call, 4, 5, before, (4, 6), cut)
+        yield done(call, 4, 7, before, (4, 10), before)
+        yield done(call, 4, 10, before, (4, 10), before)
+        yield done(call, 8, 2, at_end, (8, 4), at_end)
+        yield done(call, 8, 1, at_end, (8, 4), at_end)
+
+
+def given_up_rows():
+    """Before a free chunk all words over go to it, two as well as six; its old header keeps both its words."""
+    two = "18 10 | 8 live 1004 1005 1006 1007 1008 1009 | 8 0 6 0 1014 1015 1016 1017"
+    six = "18 6 | 4 live 1004 1005 | 12 0 1008 1009 1010 1011 6 0 1014 1015 1016 1017"
+    least = "14 8 | 6 live 1004 1005 1006 1007 | 6 0 4 0 1012 1013"
+    for call in (RESIZE, REALLOC):
+        yield done(call, 4, 5, BESIDE_FREE, (4, 6), two)
+        yield done(call, 4, 6, BESIDE_FREE, (4, 6), two)
+        yield done(call, 4, 7, BESIDE_FREE, (4, 8), BESIDE_FREE)
+        yield done(call, 4, 8, BESIDE_FREE, (4, 8), BESIDE_FREE)
+        yield done(call, 4, 2, BESIDE_FREE, (4, 2), six)
+        yield done(call, 4, 4, "14 10 | 8 live 1004 1005 1006 1007 1008 1009 | 4 0 1012 1013", (4, 4), least)
+
+
+def list_place_rows():
+    """The link that named the free chunk names its new start, be it the first, the middle or the last of the list."""
+    before = ("36 8 | 6 live 1004 1005 1006 1007 | 4 18 1010 1011 | 6 live 1014 1015 1016 1017 | 4 28 1020 1021"
+              " | 6 live 1024 1025 1026 1027 | 4 0 1030 1031 | 4 live 1034 1035")
+    first = ("36 6 | 4 live 1004 1005 | 6 18 4 18 1010 1011 | 6 live 1014 1015 1016 1017 | 4 28 1020 1021"
+             " | 6 live 1024 1025 1026 1027 | 4 0 1030 1031 | 4 live 1034 1035")
+    middle = ("36 8 | 6 live 1004 1005 1006 1007 | 4 16 1010 1011 | 4 live 1014 1015 | 6 28 4 28 1020 1021"
+              " | 6 live 1024 1025 1026 1027 | 4 0 1030 1031 | 4 live 1034 1035")
+    last = ("36 8 | 6 live 1004 1005 1006 1007 | 4 18 1010 1011 | 6 live 1014 1015 1016 1017 | 4 26 1020 1021"
+            " | 4 live 1024 1025 | 6 0 4 0 1030 1031 | 4 live 1034 1035")
+    for call in (RESIZE, REALLOC):
+        yield done(call, 4, 2, before, (4, 2), first)
+        yield done(call, 14, 2, before, (14, 2), middle)
+        yield done(call, 24, 1, before, (24, 2), last)
+        yield done(call, 34, 1, before, (34, 2), before)
+
+
+def long_resize_rows():
+    """In the longest arena a block of 8,190 words beside a free chunk grows, is cut to 100, cut by two, or kept."""
+    before = f"16384 8194 | 8192 live {counted(4, 8193)} | 8190 0 {counted(8196, 16383)}"
+    grown = (f"16384 12004 | 12002 live {counted(4, 8193)} 8190 0 {counted(8196, 12003)}"
+             f" | 4380 0 {counted(12006, 16383)}")
+    joined = f"16384 104 | 102 live {counted(4, 103)} | 16280 0 {counted(106, 8193)} 8190 0 {counted(8196, 16383)}"
+    yield done(RESIZE, 4, 12000, before, (4, 12000), grown)
+    yield done(RESIZE, 4, 100, before, (4, 100), joined)
+    two = f"16384 8192 | 8190 live {counted(4, 8191)} | 8192 0 8190 0 {counted(8196, 16383)}"
+    yield done(RESIZE, 4, 8187, before, (4, 8188), two)
+    yield done(RESIZE, 4, 8189, before, (4, 8190), before)
+
+
+def shorter_move_rows():
+    """A move to a shorter block copies that many words: the size after them, another's or the old one's, stays."""
+    after = "22 2 | 4 14 1004 1005 | 4 live 1016 1017 | 4 live 1012 1013 | 8 0 1016 1017 1018 1019 1020 1021"
+    yield done(RELOCATE, 16, 2, BELOW_TWO, (8, 2), after)
+    yield done(RELOCATE, 16, 1, BELOW_TWO, (8, 2), after)
+    below_old = ("24 2 | 10 0 1004 1005 1006 1007 1008 1009 1010 1011 | 8 live 1014 1015 1016 1017 1018 1019"
+                 " | 4 live 1022 1023")
+    after_old = ("24 2 | 4 12 1004 1005 | 6 live 1014 1015 1016 1017 | 8 0 1014 1015 1016 1017 1018 1019"
+                 " | 4 live 1022 1023")
+    yield done(RELOCATE, 14, 4, below_old, (8, 4), after_old)
+
+
+def long_move_rows():
+    """A block of 8,188 words moves to one of 8,190 with all its words, or to one of 4,000 with as many."""
+    old = counted(8196, 16383)
+    before = f"16384 2 | 8192 0 {counted(4, 8193)} | 8190 live {old}"
+    whole = f"16384 8194 | 8192 live {old} 9192 9193 | 8190 0 {old}"
+    shorter = f"16384 2 | 4190 8194 {counted(4, 4191)} | 4002 live {counted(8196, 12195)} | 8190 0 {old}"
+    yield refused(RESIZE, 8196, 8189, before, 8)
+    yield done(RELOCATE, 8196, 8189, before, (4, 8190), whole)
+    yield done(REALLOC, 8196, 8189, before, (4, 8190), whole)
+    yield done(RELOCATE, 8196, 4000, before, (4194, 4000), shorter)
+
+
+def equal_move_rows():
+    """A move to a block as long copies all words, however few were asked for; the old words join the gap below them."""
+    after = "22 14 | 8 live 1016 1017 1018 1019 1020 1021 | 4 live 1012 1013 | 8 0 1016 1017 1018 1019 1020 1021"
+    yield done(RELOCATE, 16, 3, BELOW_TWO, (4, 6), after)
+    yield done(RELOCATE, 16, 6, BELOW_TWO, (4, 6), after)
+    between_free = "22 2 | 4 12 1004 1005 | 6 live 1008 1009 1010 1011 | 6 0 1014 1015 1016 1017 | 4 live 1020 1021"
+    joined = "22 2 | 10 0 1004 1005 6 live 1008 1009 1010 1011 | 6 live 1008 1009 1010 1011 | 4 live 1020 1021"
+    yield done(RELOCATE, 8, 4, between_free, (14, 4), joined)
+
+
+def gap_above_rows():
+    """A move takes the top of the free chunk after its block, or all of it, where a resize would grow into that."""
+    before = ("22 6 | 4 live 1004 1005 | 12 0 1008 1009 1010 1011 1012 1013 1014 1015 1016 1017"
+              " | 4 live 1020 1021")
+    grown = ("22 8 | 6 live 1004 1005 12 0 | 10 0 1010 1011 1012 1013 1014 1015 1016 1017"
+             " | 4 live 1020 1021")
+    top = ("22 2 | 10 0 1004 1005 6 0 1008 1009 1010 1011 | 6 live 1004 1005 1016 1017"
+           " | 4 live 1020 1021")
+    whole = ("22 2 | 4 0 1004 1005 | 12 live 1004 1005 1010 1011 1012 1013 1014 1015 1016 1017"
+             " | 4 live 1020 1021")
+    yield done(RESIZE, 4, 4, before, (4, 4), grown)
+    yield done(RELOCATE, 4, 4, before, (14, 4), top)
+    yield done(REALLOC, 4, 4, before, (4, 4), grown)
+    yield done(RELOCATE, 4, 9, before, (8, 10), whole)
+
+
+def swallowed_header_rows():
+    """A header that a move's free swallows keeps what it had after the alloc: a live mark, or a link stored anew."""
+    between_free = ("30 2 | 8 14 1004 1005 1006 1007 1008 1009 | 4 live 1012 1013 | 4 26 1016 1017"
+                    " | 8 live 1020 1021 1022 1023 1024 1025 | 4 0 1028 1029")
+    joined = ("30 14 | 8 live 1020 1021 1022 1023 1024 1025 | 4 live 1012 1013 | 16 0 1016 1017"
+              "   8 live 1020 1021 1022 1023 1024 1025   4 0 1028 1029")
+    yield done(RELOCATE, 20, 5, between_free, (4, 6), joined)
+    before_free = "22 6 | 4 live 1004 1005 | 4 14 1008 1009 | 4 live 1012 1013 | 8 0 1016 1017 1018 1019 1020 1021"
+    moved = "22 2 | 8 0 1004 1005 4 0 1008 1009 | 4 live 1012 1013 | 8 live 1004 1005 1018 1019 1020 1021"
+    grown = "22 14 | 8 live 1004 1005 4 14 1008 1009 | 4 live 1012 1013 | 8 0 1016 1017 1018 1019 1020 1021"
+    yield done(RELOCATE, 4, 6, before_free, (16, 6), moved)
+    yield done(RESIZE, 4, 6, before_free, (4, 6), grown)
+
+
+def refused_move_rows():
+    """A move lacks room where no gap holds the need, though the block could grow, or has that many words already."""
+    grown = "16 0 | 10 live 1004 1005 1006 1007 4 0 1010 1011 | 4 live 1014 1015"
+    moved = "16 2 | 6 0 1004 1005 1006 1007 | 4 live 1004 1005 | 4 live 1014 1015"
+    yield refused(RELOCATE, 4, 6, SHORT_GAP, 6)
+    yield done(RESIZE, 4, 6, SHORT_GAP, (4, 8), grown)
+    yield refused(RELOCATE, 4, 4, SHORT_GAP, 6)
+    yield done(RESIZE, 4, 4, SHORT_GAP, (4, 4), SHORT_GAP)
+    yield done(RELOCATE, 4, 2, SHORT_GAP, (10, 2), moved)
+    full = "12 0 | 6 live 1004 1005 1006 1007 | 4 live 1010 1011"
+    yield refused(RELOCATE, 4, 1, full, 6)
+    yield done(RESIZE, 4, 1, full, (4, 4), full)
+
+
+def order_rows():
+    """The lowest number that applies is given, and 8 comes after 5: no request above N-4 is told to move."""
+    damaged = "16 0 | 6 live 1004 1005 1006 1007 | 4 0 1010 1011 | 4 live 1014 1015"
+    odd = "15 8 | 6 live 1004 1005 1006 1007 | 4 0 1010 1011 | 3 live 1014"
+    imitated = "16 0 | 10 live 1004 1005 4 live 1008 1009 1010 1011 | 4 live 1014 1015"
+    for call, last in ((RESIZE, 8), (RELOCATE, 6), (REALLOC, 6)):
+        yield refused(call, 4, 12, SHORT_GAP, last)
+        yield refused(call, 4, 13, SHORT_GAP, 5)
+        yield refused(call, 4, 4294967295, SHORT_GAP, 5)
+        yield refused(call, 4, 65540, SHORT_GAP, 5)
+        yield refused(call, 65540, 4, SHORT_GAP, 3)
+        yield refused(call, 0, 4, SHORT_GAP, 3)
+        yield refused(call, 4, 0, SHORT_GAP, 4)
+        yield refused(call, 6, 0, SHORT_GAP, 3)
+        yield refused(call, 10, 13, SHORT_GAP, 3)
+        yield refused(call, 8, 1, imitated, 3)
+        yield refused(call, 6, 0, damaged, 2)
+        yield refused(call, 4, 4, damaged, 2)
+        yield refused(call, 6, 0, odd, 1)
+        yield refused(call, 4, 4, odd, 1)
+
+
+def report_rows():
+    """A report of several free chunks, of which the first, the last or the middle one is the largest, or two are."""
+    first = ("28 2 | 8 14 1004 1005 1006 1007 1008 1009 | 4 live 1012 1013 | 4 22 1016 1017 | 4 live 1020 1021"
+             " | 6 0 1024 1025 1026 1027")
+    last = ("28 2 | 4 10 1004 1005 | 4 live 1008 1009 | 4 18 1012 1013 | 4 live 1016 1017"
+            " | 10 0 1020 1021 1022 1023 1024 1025 1026 1027")
+    middle = ("28 2 | 4 10 1004 1005 | 4 live 1008 1009 | 8 22 1012 1013 1014 1015 1016 1017 | 4 live 1020 1021"
+              " | 6 0 1024 1025 1026 1027")
+    two = "18 2 | 6 12 1004 1005 1006 1007 | 4 live 1010 1011 | 6 0 1014 1015 1016 1017"
+    yield reported(first, (18, 6, 2, 3))
+    yield reported(last, (18, 8, 2, 3))
+    yield reported(middle, (18, 6, 2, 3))
+    yield reported(two, (12, 4, 1, 2))
+
+
+def short_list_rows():
+    """A report of one free chunk, or of none, whatever lies in the chunks and looks like a header or a link."""
+    yield reported("6 2 | 4 0 1004 1005", (4, 2, 0, 1))
+    yield reported(f"16384 2 | 16382 0 {counted(4, 16383)}", (16382, 16380, 0, 1))
+    yield reported(SHORT_GAP, (4, 2, 2, 1))
+    yield reported(BESIDE_FREE, (6, 4, 1, 1))
+    yield reported("12 0 | 6 live 1004 1005 1006 1007 | 4 live 1010 1011", (0, 0, 2, 0))
+    yield reported("16 0 | 10 live 1004 1005 4 0 1008 1009 1010 1011 | 4 live 1014 1015", (0, 0, 2, 0))
+    yield reported("16 2 | 10 0 4 live 1006 1007 4 12 1010 1011 | 4 live 1014 1015", (10, 8, 1, 1))
+
+
+def long_list_rows():
+    """A report of the longest list, the last or the first of its 2,048 chunks the largest, and of 4,095 live blocks."""
+    pairs = " | ".join(f"4 {start + 8} 1004 1005 | 4 live 1008 1009" for start in range(2, 16378, 8))
+    yield reported(f"16384 2 | {pairs} | 6 0 1004 1005 1006 1007", (8194, 4, 2047, 2048))
+    pairs = " | ".join(f"4 live 1004 1005 | 4 {start + 8} 1008 1009" for start in range(12, 16380, 8))
+    yield reported(f"16384 2 | 6 12 1004 1005 1006 1007 | {pairs} | 4 live 1004 1005 | 4 0 1008 1009",
+                   (8194, 4, 2047, 2048))
+    blocks = "4 live 1004 1005 | " * 4094
+    yield reported(f"16384 0 | {blocks} 6 live 1004 1005 1006 1007", (0, 0, 4095, 0))
+
+
+def long_gap_rows():
+    """A report of two long free chunks: the larger one is the smaller in its low byte, and in its low 13 bits."""
+    before = f"16384 2 | 8196 8202 {counted(4, 8197)} | 4 live 9200 9201 | 8182 0 {counted(8204, 16383)}"
+    yield reported(before, (16378, 8194, 1, 2))
+
+
+def lost_list_rows():
+    """A list that leaves out a free chunk, falls, goes round, or leads to a live chunk or elsewhere is damage.
+
+    Each row has word 1 and the links of the two free chunks; 2, 12 and 0 would be right. Then come two free
+    neighbours, rightly linked, and an odd length, whose reason comes first.
+    """
+    for list_word, left, right in ((0, 12, 0), (12, 12, 0), (12, 0, 2), (2, 0, 0), (2, 12, 2), (2, 12, 12), (2, 8, 0),
+                                   (2, 14, 0)):
+        chunks = f"6 {left} 1004 1005 1006 1007 | 4 live 1010 1011 | 6 {right} 1014 1015 1016 1017"
+        yield refused(REPORT, 0, 0, f"18 {list_word} | {chunks}", 2)
+    yield refused(REPORT, 0, 0, "14 2 | 4 6 1004 1005 | 4 0 1008 1009 | 4 live 1012 1013", 2)
+    yield refused(REPORT, 0, 0, "15 8 | 6 live 1004 1005 1006 1007 | 4 0 1010 1011 | 3 live 1014", 1)
+
+
+ROWS = [live_neighbour_rows, short_neighbour_rows, passed_neighbour_rows, lowest_gap_rows, grow_rows, cut_rows,
+        given_up_rows, list_place_rows, long_resize_rows, shorter_move_rows, long_move_rows, equal_move_rows,
+        gap_above_rows, swallowed_header_rows, refused_move_rows, order_rows, report_rows, short_list_rows,
+        long_list_rows, long_gap_rows, lost_list_rows]
+
+
+def compare(chosen):
+    """Every row through the model and through the program; the last line counts the rows."""
+    count = run_rows(chosen.cases, [row for rows in ROWS for row in rows()])
+    return f"{count} rows of resize, the move, realloc and report compared with all their words"
+
+
+if __name__ == "__main__":
+    driver.finish("test_call_rows", compare, driver.options(__doc__, 1, named=("cases",)))

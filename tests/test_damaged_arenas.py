@@ -1,0 +1,243 @@
+"""Holds every call on random arenas, sound, spoiled and of any words, to the model: answers and all words."""
+
+from collections import Counter
+from random import Random
+
+from support import arenas, cases, driver, model
+from support.comparing import run_cases
+from support.pupil import way
+
+CALLS = 150000
+AT_ONCE = 4000
+BATCHES = 10
+EDGES = [6, 8, 16380, 16382, 16383, 16384, 16385, 16386, 16400]
+BIG = [0, 1, 2, 65536, 65540, 2**31 - 1, 2**31, 2**32 - 4, 2**32 - 3, 2**32 - 2, 2**32 - 1]
+
+# Numbers of no call, some of which are like a call's in their lowest bits.
+NO_CALLS = [0, 11, 12, 257, 258, 265, 266, 2**16 + 2, 2**31 + 3, 2**32 - 1]
+
+# What a run must have met to mean anything: every call with every code that it can give.
+CODES = {"start": (0, 1), "alloc": (0, 1, 2, 4, 5, 6), "free": (0, 1, 2, 3), "realloc": (0, 1, 2, 3, 4, 5, 6),
+         "report": (0, 1, 2), "size": (0, 1, 2, 3), "view": (0,), "view_mut": (0,), "another": (7,),
+         "resize": (0, 1, 2, 3, 4, 5, 8), "relocate": (0, 1, 2, 3, 4, 5, 6)}
+PARTS = ("view empty", "view whole", "view_mut empty", "view_mut whole")
+
+# And every way to be done, with the change it makes in the number of free chunks.
+WAYS = {"alloc": (-1, 0), "free": (-1, 0, 1),
+        "realloc kept": (0,), "realloc cut": (0, 1), "realloc grown": (-1, 0), "realloc moved": (-2, -1, 0, 1),
+        "resize kept": (0,), "resize cut": (0, 1), "resize grown": (-1, 0),
+        "relocate longer": (-2, -1, 0, 1), "relocate shorter": (-2, -1, 0, 1), "relocate equal": (-2, -1, 0, 1)}
+
+# And for a block whose own words are enough: how many are over, and what comes right after it.
+OVER = ("none", "two", "four or more")
+AFTER = ("a live chunk", "the end", "the only free chunk", "the last free chunk", "a free chunk before others")
+SHRINKS = [("over", over, after) for over in OVER for after in AFTER]
+
+# And for a move every place of the gap that it takes, seen from the old block, and how much of it is taken.
+GAPS = [(place, much) for place in ("right below", "right above", "elsewhere") for much in ("whole", "in part")]
+
+# And how many words it copies, by the bits of that number: from 2 words to 1,024 and more.
+COPIED = [("words copied", bits) for bits in range(2, 12)]
+
+
+def length_for(random, number):
+    """Every length from 0 to 95 in turn, the lawful ones more often; now and then a longer one, up to 16,400."""
+    if number % 200 == 77:
+        return random.choice(EDGES + [2 * random.randrange(40, 8193)])
+    if number % 4 == 0:
+        return number // 4 % 96
+    return 2 * random.randrange(3, 200 if number % 4 == 1 else 48)
+
+
+def arena_for(random, number):
+    """An arena that is sound, spoiled, or of any words; a length that no arena can have gets words of any kind."""
+    length = length_for(random, number)
+    lawful = length % 2 == 0 and model.LEAST_ARENA <= length <= model.LONGEST_ARENA
+    kind = random.random()
+    if lawful and kind < 0.9:
+        return arenas.sound_arena(random, length) if kind < 0.55 else arenas.spoiled_arena(random, length)
+    return arenas.any_arena(random, length)
+
+
+def block_for(random, arena):
+    """A block's number: mostly a true one, else a gap's, an imitation's, one beside these, or any number."""
+    length = len(arena.words)
+    kind = random.random()
+    if arena.chunks and kind < 0.85:
+        live = [piece for piece in arena.chunks if piece.live and kind < 0.7]
+        block = random.choice(live or arena.chunks).start + 2
+        return block if kind < 0.79 else max(block + random.choice([-4, -2, -1, 1, 2, 4, 65536, 2**31]), 0)
+    imitated = [at + 2 for at in range(2, length - 1) if arena.words[at + 1] == model.LIVE_MARK]
+    if imitated and kind < 0.95:
+        return random.choice(imitated)
+    return random.choice(BIG + [3, 4, 5, length, length + 2, random.getrandbits(32), random.randrange(length + 3)])
+
+
+def asked_for(random, arena):
+    """A number of words: near what the chunks have, near the limit, small, or any number."""
+    length = len(arena.words)
+    kind = random.random()
+    gaps = [piece.size for piece in arena.chunks if not piece.live]
+    if gaps and kind < 0.3:
+        return max(random.choice(gaps) - 2 - random.randint(0, 3), 0)
+    if arena.chunks and kind < 0.6:
+        place = random.randrange(len(arena.chunks))
+        together = sum(piece.size for piece in arena.chunks[place:place + random.choice([1, 1, 2])])
+        return max(together - 2 + random.randint(-7, 4), 0)
+    if kind < 0.8:
+        return random.randint(1, 12)
+    return random.choice(BIG + [max(length - 4 + change, 0) for change in (-2, -1, 0, 1, 2)] + [random.getrandbits(32)])
+
+
+def cases_for(random, number):
+    """A call with its numbers and its arena, or three calls together."""
+    arena = arena_for(random, number)
+    call = random.choice([cases.START, cases.REPORT, cases.SIZE, cases.VIEW, cases.VIEW_MUT, 0]
+                         + [cases.ALLOC, cases.FREE] * 3 + [cases.REALLOC] * 6)
+    if call == 0:
+        call = random.choice([*NO_CALLS, cases.ALLOC, cases.REALLOC])
+    return cases_on(random, arena, call)
+
+
+def cases_on(random, arena, call):
+    """The call on this arena with some numbers; a realloc comes together with the two calls that it is made of."""
+    block, asked = block_for(random, arena), asked_for(random, arena)
+    calls = cases.TOGETHER if call == cases.REALLOC else [call]
+    return [cases.Case(each, block, asked, arena.words) for each in calls]
+
+
+def long_cases(random, count):
+    """The three calls and a report on so many arenas of long blocks and gaps: some moves copy thousands of words."""
+    for _ in range(count):
+        arena = arenas.long_arena(random)
+        yield from cases_on(random, arena, cases.REALLOC)
+        yield cases.Case(cases.REPORT, 0, 0, arena.words)
+
+
+def full_cases(random):
+    """Every call on arenas with as many chunks as there can be, for the first block, the last and others."""
+    for arena in (arenas.full_arena(False), arenas.full_arena(True)):
+        live = [piece for piece in arena.chunks if piece.live]
+        for asked, piece in enumerate([live[0], live[-1], *random.sample(live, 4)], 1):
+            for call in cases.CALLS:
+                yield cases.Case(call, piece.start + 2, asked, arena.words)
+
+
+def way_of(case, answer):
+    """How a call that was done was done: its name, and what became of the block if it was to have another length."""
+    name = cases.name_of(case.call)
+    if case.call not in cases.TOGETHER:
+        return name
+    old_granted = case.words[case.block - model.HEADER] - model.HEADER
+    block, granted = answer.fields
+    if case.call == cases.RELOCATE:
+        return f"{name} {'longer' if granted > old_granted else 'shorter' if granted < old_granted else 'equal'}"
+    return f"{name} {way(case.block, old_granted, block, granted)}"
+
+
+def shrunk(case, gaps):
+    """How many words are over where a block's own are enough, and what comes right after it; else nothing."""
+    start = case.block - model.HEADER
+    end = start + case.words[start]
+    over = case.words[start] - model.need_of(case.asked, len(case.words))
+    if over >= 0:
+        yield "over", OVER[min(over // 2, 2)], comes_after(end, len(case.words), gaps)
+
+
+def comes_after(end, length, gaps):
+    """What begins at a chunk's end, in an arena of this length; a free chunk with its place among the gaps."""
+    free = [gap for gap, room in gaps]
+    if end == length:
+        return "the end"
+    if end not in free:
+        return "a live chunk"
+    if len(free) == 1:
+        return "the only free chunk"
+    return "the last free chunk" if end == free[-1] else "a free chunk before others"
+
+
+def gap_taken(case, answer, gaps):
+    """Which of the gaps a move took, seen from the old block, and how much of it."""
+    block, granted = answer.fields
+    start = case.block - model.HEADER
+    end = start + case.words[start]
+    gap, room = [(gap, room) for gap, room in gaps if gap < block < gap + room][0]
+    place = "right below" if gap + room == start else "right above" if gap == end else "elsewhere"
+    return place, "whole" if room == granted + model.HEADER else "in part"
+
+
+def words_copied(case, answer):
+    """How many words a move copied: as many as the shorter of the two blocks has."""
+    return min(case.words[case.block - model.HEADER] - model.HEADER, answer.fields[1])
+
+
+def met_by(case, answer):
+    """What this case shows, for the count of what was met."""
+    name = cases.name_of(case.call) if case.call in cases.CALLS else "another"
+    yield name, "code", answer.code
+    if case.call in (cases.VIEW, cases.VIEW_MUT):
+        yield f"{name} {'whole' if answer.part else 'empty'}"
+    if case.call in (cases.ALLOC, cases.FREE, *cases.TOGETHER) and answer.code == model.DONE:
+        yield from met_by_done(case, answer)
+
+
+def met_by_done(case, answer):
+    """What a call that was done and can change the chunks shows besides."""
+    gaps, gaps_after = [model.live_and_gaps(words)[1] for words in (case.words, answer.words)]
+    yield way_of(case, answer), "free chunks", len(gaps_after) - len(gaps)
+    if case.call in (cases.RESIZE, cases.REALLOC):
+        yield from shrunk(case, gaps)
+    if case.call == cases.RELOCATE:
+        yield gap_taken(case, answer, gaps)
+        yield "words copied", words_copied(case, answer).bit_length()
+
+
+def met_together(asked, answers):
+    """The codes of each three calls that were asked together."""
+    for at in cases.asked_together(asked):
+        yield "together", tuple(answer.code for answer in answers[at:at + 3])
+
+
+def unfinished(random, number):
+    """Bytes after the last case that are no case: nothing, a case cut short, or one longer than is allowed."""
+    whole = cases.case_bytes(cases_for(random, 12)[0])
+    too_long = [cases.packed([cases.REPORT, 0, 0, length]) for length in (16401, 2**30, 2**31, 2**32 - 1)]
+    kinds = [b"", b"\1", whole[:15], whole[:16], whole[:-1], whole[:random.randrange(16, len(whole))]]
+    kinds += [start + bytes(4 * 16401) + whole for start in too_long]
+    return kinds[number % len(kinds)]
+
+
+def wanted():
+    """What a run has to meet: codes of one call and of three together, ways to be done, shrinks, gaps taken, views."""
+    codes = [(name, "code", code) for name, codes in CODES.items() for code in codes]
+    ways = [(way, "free chunks", change) for way, changes in WAYS.items() for change in changes]
+    together = [("together", codes) for codes in cases.CODES_TOGETHER]
+    return [*codes, *ways, *together, *SHRINKS, *GAPS, *COPIED, *PARTS]
+
+
+def compare(chosen):
+    """Batches of cases, each run at once; the last line counts calls."""
+    random = Random(chosen.seed)
+    met = Counter()
+    done = 0
+    batch = 0
+    while done < chosen.count or batch < BATCHES:
+        numbers = range(done, done + min(AT_ONCE, max(chosen.count // BATCHES, 1)))
+        asked = [case for number in numbers for case in cases_for(random, number)]
+        asked += full_cases(random) if batch == BATCHES - 1 else []
+        asked += long_cases(random, len(numbers) // 50)
+        answers = [cases.answer_to(case) for case in asked]
+        run_cases(chosen.cases, asked, answers, unfinished(random, batch))
+        for case, answer in zip(asked, answers):
+            met.update(met_by(case, answer))
+        met.update(met_together(asked, answers))
+        done += len(asked)
+        batch += 1
+    if chosen.count >= CALLS:
+        driver.check_met(met, wanted(), 10, "cases")
+    refused = sum(count for what, count in met.items() if what[1] == "code" and what[2] != model.DONE)
+    return f"{done:,} calls compared with all their words; {refused:,} of them were refused"
+
+
+if __name__ == "__main__":
+    driver.finish("test_damaged_arenas", compare, driver.options(__doc__, CALLS, named=("cases",)))

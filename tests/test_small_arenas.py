@@ -1,0 +1,60 @@
+"""Holds grants, frees and reports on arenas of up to 24 words to the model: every list of chunks, block and request.
+
+Each list of chunks that fills an arena of such a length comes once, with its other words filled in one way.
+"""
+
+from support import arenas, cases, driver, model
+from support.comparing import run_cases
+
+LONGEST = 24
+
+# More calls than there are on all these arenas: with a smaller --count it ends with a shorter length.
+ALL = 10**6
+
+
+def layouts(start, length, after_free):
+    """Every way to fill the words from `start` on with chunks, no two free ones side by side."""
+    if start == length:
+        yield []
+    for size in range(model.LEAST_CHUNK, length - start + 1, 2):
+        for live in (True,) if after_free else (True, False):
+            for rest in layouts(start + size, length, not live):
+                yield [arenas.Piece(start, size, live), *rest]
+
+
+def cases_on(length, pieces):
+    """On an arena of these chunks: a report, a free of each chunk, and every request from 0 to one too large.
+
+    The requests are made of the arena and of each of its chunks, the free ones too.
+    """
+    words = [1000 + at for at in range(length)]
+    arenas.store_headers(words, pieces)
+    for asked in range(length - 2):
+        yield cases.Case(cases.ALLOC, 0, asked, words)
+        for piece in pieces:
+            for call in cases.TOGETHER:
+                yield cases.Case(call, piece.start + model.HEADER, asked, words)
+    for piece in pieces:
+        yield cases.Case(cases.FREE, piece.start + model.HEADER, 0, words)
+    yield cases.Case(cases.REPORT, 0, 0, words)
+
+
+def compare(chosen):
+    """All lists of chunks for one length are run at once; the last line counts calls and lists."""
+    list_count = call_count = 0
+    for length in range(model.LEAST_ARENA, LONGEST + 1, 2):
+        filled = list(layouts(model.FIRST_CHUNK, length, False))
+        asked = [case for pieces in filled for case in cases_on(length, pieces)]
+        run_cases(chosen.cases, asked, [cases.answer_to(case) for case in asked])
+        list_count += len(filled)
+        call_count += len(asked)
+        if call_count >= chosen.count:
+            break
+    if length < LONGEST and chosen.count == ALL:
+        raise driver.Difference(f"the calls on up to {length} words are as many as were to be made for all lengths")
+    told = f"{list_count} lists of chunks, every one that fills up to {length} words"
+    return f"{call_count:,} calls on {told}, compared with all their words"
+
+
+if __name__ == "__main__":
+    driver.finish("test_small_arenas", compare, driver.options(__doc__, ALL, named=("cases",)))
