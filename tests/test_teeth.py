@@ -1,12 +1,12 @@
 """Shows that the comparers complain, and the drivers of names and of long runs: each has to see what is wrong.
 
-The other drivers are tried by test_teeth_rows.py and test_teeth_arenas.py.
+The other drivers are tried by test_teeth_rows.py, test_teeth_arenas.py and test_teeth_c.py.
 """
 
 import glob
 import os
 
-from support import cases, driver, lines, model, programs, spoiled_pages, teeth
+from support import cases, driver, lines, model, programs, spoiled_c, spoiled_headers, spoiled_pages, spoiling, teeth
 from support.comparing import compare_answers, compare_replies, compare_together
 
 LINES = b"010020\n020005\n020001\n05\n03001A\n0Z\n"
@@ -95,9 +95,10 @@ def check_comparers():
 
 
 def check_all_tried():
-    """Each driver is tried by a row of faults, or on spoiled pages, but for those that try the others."""
+    """Each driver is tried by a row of faults, or on spoiled copies, but for those that try the others."""
     named = {os.path.basename(path)[:-len(".py")] for path in glob.glob(os.path.join(programs.TESTS, "test_*.py"))}
-    tried = {trial.driver for trial in teeth.ROWS + teeth.LINES + teeth.ARENAS} | {spoiled_pages.DRIVER}
+    tried = {trial.driver for trial in teeth.ROWS + teeth.LINES + teeth.ARENAS}
+    tried |= {spoiled.DRIVER for spoiled in (spoiled_pages, spoiled_headers, spoiled_c)}
     untried = sorted(name for name in named - tried if not name.startswith("test_teeth"))
     if untried:
         raise driver.Difference(f"nothing tries whether these complain: {untried}")
@@ -107,7 +108,7 @@ def compare(chosen):
     """The comparers first, then the drivers; the last line counts what they were tried on."""
     check_all_tried()
     judged = check_comparers()
-    pages = spoiled_pages.check_driver()
+    pages = spoiling.check_driver(spoiled_pages.DRIVER, spoiled_pages.SPOILED)
     seen = teeth.check_drivers(teeth.LINES, chosen.seed)
     outputs = f"{judged} outputs, wrong and true, were judged rightly"
     return f"{outputs}, and all {seen} faulty programs and {pages} spoiled pages were seen"

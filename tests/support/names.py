@@ -8,7 +8,7 @@ from collections import namedtuple
 NAME = re.compile(r"(?<!\w)[^\W\d]\w*(?:-\w+)*'*")
 
 # Comments in the sources, which name nothing into being.
-COMMENTS = {".rt": re.compile(r"//.*"), ".antt": re.compile(r"--.*")}
+COMMENTS = {".rt": re.compile(r"//.*"), ".antt": re.compile(r"--.*"), ".h": re.compile(r"/\*.*?\*/", re.DOTALL)}
 
 # A name of the code with the crate that it is in.
 QUALIFIED = re.compile(r"(?<![\w:])(\w+)((?:::\w+)+)")
@@ -48,14 +48,14 @@ def names_in_source(path):
 
 
 def known_below(root):
-    """What a page may name: all that occurs in the sources of the crates, and every file and folder."""
+    """What a page may name: all that occurs in the sources of the crates or the header, and every file and folder."""
     paths = paths_below(root)
     names = set()
     code = {}
     for path in paths:
         last = path.rstrip("/").split("/")[-1]
         names |= {last, os.path.splitext(last)[0]}
-        if path.startswith("crates/") and path.endswith(tuple(COMMENTS)):
+        if path.startswith(("crates/", "include/")) and path.endswith(tuple(COMMENTS)):
             found = names_in_source(os.path.join(root, path))
             names |= found
             if path.endswith(".rt"):

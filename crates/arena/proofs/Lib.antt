@@ -1,4 +1,2 @@
--- The laws of the calls' gates, their answers and their views.
-pub mod Locating
-pub mod Granting
+-- The laws of the views.
 pub mod Viewing

@@ -1,7 +1,5 @@
 // An allocator over one lent arena of 32-bit words. A call asks nothing of its caller: it is done as the rules say, or
 // it is refused with a reason and changes nothing.
-mod targets;
-
 pub use answers::Finish;
 pub use answers::Granted;
 pub use answers::Reported;
@@ -11,14 +9,12 @@ use layout::Reason;
 use layout::wide;
 use targets::Located;
 use targets::Target;
-use ways::Way;
 ghost use mathlib.Core.Path.{_≡_};
 ghost use denote.Ref.{ptr};
 ghost use Rattle.rules.specs.Answers.{Gives};
 ghost use Rattle.rules.specs.Calls.{startOn, allocOn, freeOn, resizeOn, relocateOn, reallocOn, sizeOn, reportOn};
 ghost use Rattle.answers.specs.Readings.{finishNumbers, grantedNumbers, sizedNumbers, reportedNumbers};
 ghost use Rattle.arena.specs.Views.{Views};
-ghost use Rattle.arena.specs.Targets.{grantedOf};
 
 // Makes the whole arena one free chunk.
 pub fn start(a: &mut [u32]) -> Finish
@@ -37,7 +33,7 @@ pub fn start(a: &mut [u32]) -> Finish
 pub fn alloc(a: &mut [u32], n: u32) -> Granted
     ensures { λ r. ⌜ Gives (allocOn (now (a .entry)) n) (grantedNumbers r) (now (a .exit)) ⌝ }
 {
-    let arena = layout::check_arena(a);
+    let arena = walk::check_arena(a);
     if let Gate::Shut(why) = arena {
         return Granted::Refused(why);
     }
@@ -46,7 +42,7 @@ pub fn alloc(a: &mut [u32], n: u32) -> Granted
         return Granted::Refused(why);
     }
     let way = ways::allot(a, layout::need(wide(n)));
-    answer(way, Reason::NoRoom)
+    targets::answer(way, Reason::NoRoom)
 }
 
 // Frees block `b`.
@@ -71,7 +67,7 @@ pub fn resize(a: &mut [u32], b: u32, n: u32) -> Granted
     match target {
         Target::Block { link, chunk, need } => {
             let way = ways::staying::resize_at(a, link, chunk, need);
-            answer(way, Reason::WouldMove)
+            targets::answer(way, Reason::WouldMove)
         }
         Target::Refused(why) => Granted::Refused(why),
     }
@@ -85,7 +81,7 @@ pub fn relocate(a: &mut [u32], b: u32, n: u32) -> Granted
     match target {
         Target::Block { link, chunk, need } => {
             let way = ways::moving::relocate_at(a, link, chunk, need);
-            answer(way, Reason::NoRoom)
+            targets::answer(way, Reason::NoRoom)
         }
         Target::Refused(why) => Granted::Refused(why),
     }
@@ -95,13 +91,14 @@ pub fn relocate(a: &mut [u32], b: u32, n: u32) -> Granted
 pub fn realloc(a: &mut [u32], b: u32, n: u32) -> Granted
     ensures { λ r. ⌜ Gives (reallocOn (now (a .entry)) b n) (grantedNumbers r) (now (a .exit)) ⌝ }
 {
-    let resized = resize(a, b, n);
-    if let Granted::Refused(why) = resized {
-        if let Reason::WouldMove = why {
-            return relocate(a, b, n);
+    let target = targets::target_of(a, b, n);
+    match target {
+        Target::Block { link, chunk, need } => {
+            let way = ways::regrant_at(a, link, chunk, need);
+            targets::answer(way, Reason::NoRoom)
         }
+        Target::Refused(why) => Granted::Refused(why),
     }
-    resized
 }
 
 // The granted words of block `b`.
@@ -147,26 +144,16 @@ pub fn view_mut(a: &mut [u32], b: u32) -> &mut [u32]
 pub fn report(a: &[u32]) -> Reported
     ensures { λ r. ⌜ Gives (reportOn (now (a .entry))) (reportedNumbers r) (now (a .entry)) ⌝ }
 {
-    let arena = layout::check_arena(a);
-    if let Gate::Shut(why) = arena {
-        return Reported::Refused(why);
+    let chunks = walk::count_chunks(a);
+    if chunks == 0 {
+        return Reported::Refused(walk::fault(a.len()));
     }
     let listed = passes::tally::count_free(a);
-    let blocks = passes::tally::count_live(a);
+    let live = chunks - listed.chunks;
     Reported::Counts {
         free_words: listed.words as u32,
         largest: listed.largest as u32,
-        live_blocks: blocks as u32,
+        live_blocks: live as u32,
         free_chunks: listed.chunks as u32,
-    }
-}
-
-// A way as the answer of a call that grants; `why` is what the call says where it is shut.
-fn answer(way: Way, why: Reason) -> Granted
-    ensures { λ r. ⌜ r ≡ grantedOf why way ⌝ }
-{
-    match way {
-        Way::Grants(block, granted) => Granted::Block { block, granted },
-        Way::Shut => Granted::Refused(why),
     }
 }

@@ -5,7 +5,7 @@ use mathlib.Core.List.{List}
 use lib.ListN.{length, take}
 use lib.Seq.{length-take-le}
 use Rattle.requests.specs.declared.Place.{Place}
-use Rattle.lines.specs.Boards.{Board}
+use Rattle.replies.specs.Boards.{Board}
 use Rattle.lines.specs.Pieces.{HearsAll}
 use Rattle.lines.specs.declared.Heard.{Heard}
 use Rattle.board.specs.Turns.{Turned, came}

@@ -3,7 +3,7 @@ use Prim.Native.Nat.{ℕ, _*_, _≤_}
 use mathlib.Core.List.{List}
 use lib.ListN.{length, take}
 use Rattle.requests.specs.declared.Place.{Place}
-use Rattle.lines.specs.Boards.{Board, longestReply}
+use Rattle.replies.specs.Boards.{Board, longestReply}
 use Rattle.lines.specs.Pieces.{ending, HearsAll}
 use Rattle.lines.specs.declared.Heard.{Heard}
 

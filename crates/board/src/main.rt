@@ -5,7 +5,7 @@ use libc::STDOUT_FILENO;
 use lines::Heard;
 ghost use Prim.Native.Nat.{_*_, _≤_};
 ghost use lib.ListN.{length};
-ghost use Rattle.lines.specs.Boards.{longestReply};
+ghost use Rattle.replies.specs.Boards.{longestReply};
 ghost use Rattle.lines.specs.Pieces.{boardOf, ending, HearsAll};
 ghost use Rattle.board.specs.Turns.{Roomy, Turned};
 

@@ -193,6 +193,10 @@ sound-arena a e =
           },
         )
 
+pub sound-lawful : (a : List ℕ) → sound a ≡ true → lawful (length a) ≡ true
+unfolding sound
+sound-lawful a e = both (lawful (length a)) _ e .0
+
 pub sound-chunks : (a : List ℕ) → sound a ≡ true → Arena a (chunksOf a)
 unfolding chunksOf
 sound-chunks a e = let (ks, p, r) = sound-arena a e in rw p r

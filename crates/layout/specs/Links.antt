@@ -2,11 +2,9 @@
 -- and the law of the free list.
 use Prim.Native.Nat.{ℕ, _+_, _<_}
 use mathlib.Core.Path.{_≡_}
-use mathlib.Core.Bool.{cond}
 use mathlib.Core.List.{List, [], _∷_}
 use lib.ListN.{length, getD}
 use Rattle.layout.specs.Chunks.{Chunk, free, live}
-use Rattle.layout.specs.Walk.{sizeFits}
 
 -- the word that names the first free chunk after `ks`, which begin at word `c`: the last free one's second word, `base`
 -- if none of them is free
@@ -27,7 +25,3 @@ freeList c (live s ∷ ks) = freeList (c + s) ks
 abbrev pub Chain : List ℕ → ℕ → List (ℕ × ℕ) → Type 0
 Chain a link [] = getD a link 0 ≡ 0
 Chain a link ((c, s) ∷ list) = (getD a link 0 ≡ c) × (getD a c 0 ≡ s) × (link < c) × (c + 1 < length a) × Chain a (c + 1) list
-
--- the size of the chunk that may stand at word `c`, or 0 where none can
-unfoldable pub sizeAt : List ℕ → ℕ → ℕ
-sizeAt a c = cond (sizeFits (length a) c (getD a c 0)) (getD a c 0) 0

@@ -14,7 +14,8 @@ use Rattle.layout.proofs.Reasons.{number-positive}
 use Rattle.rules.specs.Answers.{Outcome, success}
 use Rattle.rules.specs.Rooms.{Needed}
 use Rattle.rules.specs.Causes.{Request}
-use Rattle.rules.proofs.Gates.{sound-lawful, request-needed}
+use Rattle.layout.proofs.Round.{sound-lawful}
+use Rattle.rules.proofs.Gates.{request-needed}
 use Rattle.rules.proofs.Starting.{whole-lawful}
 use Rattle.rules.proofs.CallCases.{Case, refuses, does, Restarts, restarts, start-case, Allots, allots, alloc-case, Frees, frees, free-case, Measures}
 use Rattle.rules.proofs.CallCases.{measures, size-case, Reports, reports, report-case}

@@ -17,7 +17,8 @@ use Rattle.rules.specs.Answers.{Answer, Outcome, success}
 use Rattle.rules.specs.Rules.{taken, freeWords, widest, liveBlocks, freeChunks}
 use Rattle.rules.specs.Calls.{freeOn, sizeOn, viewOn, reportOn}
 use Rattle.rules.specs.Stands.{NoBlock}
-use Rattle.rules.proofs.Gates.{sound-lawful, sound-gate}
+use Rattle.layout.proofs.Round.{sound-lawful}
+use Rattle.rules.proofs.Gates.{sound-gate}
 use Rattle.rules.proofs.Searches.{block-held}
 use Rattle.rules.proofs.CallCases.{Case, refuses, does, Allots, allots, alloc-case}
 use Rattle.rules.proofs.Remainder.{cut-numbers}

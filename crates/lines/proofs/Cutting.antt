@@ -6,7 +6,7 @@ use Prim.Native.Nat.{ℕ}
 use lib.Dec.{eqb}
 use Rattle.digits.specs.Digits.{lineEnd}
 use Rattle.requests.specs.declared.Place.{Place}
-use Rattle.lines.specs.Boards.{Board}
+use Rattle.replies.specs.Boards.{Board}
 use Rattle.lines.specs.Pieces.{Hearing, hears, goesOn, heardAfter}
 
 -- a hearing with earlier replies before its own

@@ -13,9 +13,10 @@ use Rattle.digits.specs.Putting.{Puts}
 use Rattle.digits.proofs.Putting.{puts-then}
 use Rattle.requests.specs.LinePlaces.{atStart, onward, requestAt}
 use Rattle.requests.specs.declared.Place.{Place}
-use Rattle.lines.specs.Boards.{Board, lending, longestReply, replied}
+use Rattle.replies.specs.Boards.{Board, lending, longestReply, replied}
 use Rattle.lines.specs.Pieces.{Hearing, hears, ending, answerable, HearsAll}
-use Rattle.lines.specs.Answering.{Answers, HearsByte}
+use Rattle.replies.specs.Answering.{Answers}
+use Rattle.lines.specs.OneByte.{HearsByte}
 use Rattle.lines.specs.declared.Heard.{Heard}
 use Rattle.lines.proofs.Cutting.{hears-append}
 

@@ -2,7 +2,7 @@
 use mathlib.Core.Path.{_≡_, refl}
 use Rattle.digits.specs.Digits.{glyph}
 use Rattle.requests.specs.declared.Request.the-variants.{Malformed}
-use Rattle.lines.specs.Boards.{Board, replyText, outcomeOf, replied}
+use Rattle.replies.specs.Boards.{Board, replyText, outcomeOf, replied}
 use Rattle.lines.specs.Table.{lineOf}
 
 -- it is answered 0007, and nothing changes

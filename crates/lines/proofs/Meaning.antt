@@ -11,7 +11,7 @@ use Rattle.digits.specs.Digits.{lineEnd}
 use Rattle.requests.specs.Requests.{requestOf}
 use Rattle.requests.specs.LinePlaces.{atStart}
 use Rattle.requests.proofs.LinePlaces.{linePlace, place-append, request-known, onward-begun, place-begun}
-use Rattle.lines.specs.Boards.{Board, replied}
+use Rattle.replies.specs.Boards.{Board, replied}
 use Rattle.lines.specs.Texts.{linesFrom, repliedTo, means}
 use Rattle.lines.specs.Pieces.{Hearing, hears, goesOn, unheard, closed, heardInPieces}
 use Rattle.lines.proofs.Cutting.{hears-append, heard-joined}

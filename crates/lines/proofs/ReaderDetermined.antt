@@ -3,7 +3,7 @@ use mathlib.Core.Path.{_≡_, sym, _∙_}
 use mathlib.Core.List.{List}
 use Prim.Native.Nat.{ℕ}
 use Rattle.requests.specs.declared.Place.{Place}
-use Rattle.lines.specs.Boards.{Board}
+use Rattle.replies.specs.Boards.{Board}
 use Rattle.lines.specs.Pieces.{HearsAll}
 use Rattle.lines.specs.declared.Heard.{Heard}
 

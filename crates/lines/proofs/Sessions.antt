@@ -7,7 +7,7 @@ use lib.ListN.{length, take, drop}
 use lib.Seq.{take-at}
 use Rattle.requests.specs.LinePlaces.{atStart}
 use Rattle.requests.specs.declared.Place.{Place}
-use Rattle.lines.specs.Boards.{Board, lending, longestReply}
+use Rattle.replies.specs.Boards.{Board, lending, longestReply}
 use Rattle.lines.specs.Texts.{means}
 use Rattle.lines.specs.Pieces.{Hearing, hears, goesOn, unheard, ending, closed, boardOf, answerable, HearsAll}
 use Rattle.lines.specs.Sessions.{Session, begun, next}

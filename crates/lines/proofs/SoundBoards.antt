@@ -25,13 +25,13 @@ use Rattle.requests.specs.LinePlaces.{atStart, onward}
 use Rattle.requests.specs.declared.Place.{Place}
 use Rattle.requests.specs.declared.Request.{Request}
 use Rattle.requests.specs.declared.Request.the-variants.{Start, Alloc, Free, Realloc, Report, Malformed}
-use Rattle.lines.specs.Boards.{Board, lending, lentOf, lentFor, outcomeOf, lentAfter, withLent, replied}
+use Rattle.replies.specs.Boards.{Board, lending, lentOf, lentFor, outcomeOf, lentAfter, withLent, replied}
 use Rattle.lines.specs.Texts.{repliedTo}
 use Rattle.lines.specs.Pieces.{Hearing, hears, boardOf}
 use Rattle.lines.specs.Sessions.{Session}
 use Rattle.lines.proofs.Sessions.{session-heard}
-use Rattle.lines.proofs.Telling.{reply-reads}
-use Rattle.lines.proofs.RefusedRequests.{refused-keeps}
+use Rattle.replies.proofs.Telling.{reply-reads}
+use Rattle.replies.proofs.RefusedRequests.{refused-keeps}
 
 -- a board lends nothing, or a sound arena
 abbrev pub LendsSound : Board → Type 0

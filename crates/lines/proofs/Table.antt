@@ -9,7 +9,7 @@ use Rattle.rules.specs.Rules.{joined, copied}
 use Rattle.rules.specs.Calls.{startOn, allocBy, freeOn, regrantBy, reportOn}
 use Rattle.digits.specs.Digits.{worth, glyph}
 use Rattle.requests.specs.LinePlaces.{onward, requestAt}
-use Rattle.lines.specs.Boards.{replyText, outcomeOf, replied}
+use Rattle.replies.specs.Boards.{replyText, outcomeOf, replied}
 use Rattle.lines.specs.Pieces.{hears}
 use Rattle.lines.specs.Table.{Table}
 

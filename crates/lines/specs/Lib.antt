@@ -1,6 +1,5 @@
-pub mod Boards
 pub mod Texts
 pub mod Pieces
 pub mod Sessions
 pub mod Table
-pub mod Answering
+pub mod OneByte

@@ -8,7 +8,7 @@ use lib.Dec.{eqb}
 use Rattle.digits.specs.Digits.{lineEnd}
 use Rattle.requests.specs.LinePlaces.{atStart, onward, requestAt}
 use Rattle.requests.specs.declared.Place.{Place}
-use Rattle.lines.specs.Boards.{Board, lending, longestReply, Replied, replied}
+use Rattle.replies.specs.Boards.{Board, lending, longestReply, Replied, replied}
 use Rattle.lines.specs.declared.Heard.{Heard}
 
 -- what is known once bytes have been heard: the replies so far, the place, and the board

@@ -11,7 +11,7 @@ use Rattle.layout.specs.Chunks.{free, live}
 use Rattle.layout.specs.Walk.{chunksOf}
 use Rattle.digits.specs.Digits.{lineEnd}
 use Rattle.requests.specs.LinePlaces.{atStart}
-use Rattle.lines.specs.Boards.{Board, lending, lentOf}
+use Rattle.replies.specs.Boards.{Board, lending, lentOf}
 use Rattle.lines.specs.Pieces.{Hearing, hears}
 
 -- a text's bytes

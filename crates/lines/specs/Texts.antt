@@ -5,7 +5,7 @@ use mathlib.Core.List.{List, [], _∷_, _++_}
 use lib.Dec.{eqb}
 use Rattle.digits.specs.Digits.{lineEnd}
 use Rattle.requests.specs.Requests.{requestOf}
-use Rattle.lines.specs.Boards.{Board, Replied, replied}
+use Rattle.replies.specs.Boards.{Board, Replied, replied}
 
 -- a last line without an end counts if it is not empty
 abbrev pub lastLine : List ℕ → List (List ℕ)

@@ -1,12 +1,10 @@
 // Request lines: a text is heard piece by piece, and each line of it is answered by a call on the lent words.
-mod answer;
-mod reply;
-
 pub use requests::Place;
 ghost use mathlib.Core.Path.{_≡_};
-ghost use Rattle.lines.specs.Boards.{lending};
+ghost use Rattle.replies.specs.Boards.{lending};
 ghost use Rattle.lines.specs.Pieces.{nothingHeard, ending, boardOf, answerable, HearsAll};
-ghost use Rattle.lines.specs.Answering.{Ready, HearsByte};
+ghost use Rattle.replies.specs.Answering.{Ready};
+ghost use Rattle.lines.specs.OneByte.{HearsByte};
 
 // The longest reply, that of a report, in bytes.
 pub const LONGEST_REPLY: usize = 21;
@@ -41,7 +39,7 @@ fn hear_byte(heard: Heard, b: u8, words: &mut [u32], out: &mut [u8]) -> Heard
     let place = heard.place;
     if b == b'\n' {
         let request = requests::request_at(place);
-        let said = answer::answer(request, words, heard.lent, out, heard.written);
+        let said = replies::answer(request, words, heard.lent, out, heard.written);
         return Heard {
             place: requests::at_start(),
             lent: said.lent,

@@ -1,18 +1,21 @@
--- The two searches, step by step: past every chunk for a block, along the free list for the first chunk that passes a
--- test.
+-- The two searches, step by step: past the chunks below it for a block, along the free list for the first chunk that
+-- passes a test.
 use mathlib.Core.Path.{_≡_, refl, sym, ap, _∙_}
 use mathlib.Core.Bool.{Bool, true, false, cond}
 use mathlib.Core.List.{List, [], _∷_}
 use Prim.Native.Nat.{ℕ, _+_, _≤_, _<_}
 use native.Mathlib.Omega.{arith}
 use lib.ListN.{length}
-use Rattle.layout.specs.Numbers.{firstChunk, listWord}
+use borrow.Author.Tests.{eq-eqb, ne-eqb}
+use Rattle.layout.specs.Numbers.{firstChunk, listWord, headerWords}
 use Rattle.layout.specs.Chunks.{Chunk, free, live, total}
 use Rattle.layout.specs.Walk.{sound, chunksOf}
 use Rattle.layout.specs.Links.{linkAt, freeList, Chain}
 use Rattle.layout.proofs.Chain.{chain}
 use Rattle.layout.proofs.Round.{sound-chunks}
 use Rattle.rules.specs.Spots.{Spot, nowhere, at, behind, lowest, isBlock, held}
+use Rattle.rules.proofs.Lowest.{missed-nowhere}
+use Rattle.rules.proofs.Searches.{missed-below, missed-above}
 use Rattle.passes.specs.Places.{placeOf}
 use Rattle.passes.specs.declared.places.Place.{Place}
 use Rattle.passes.specs.declared.places.Place.the-variants.{At, Nowhere}
@@ -43,7 +46,7 @@ unfolding placeFrom
 place-past-free base c s nowhere = refl
 place-past-free base c s (at pre k post) = ap (At (linkAt (c + 1) (c + s) pre)) (omega arith)
 
--- ---- past every chunk, for block `b`
+-- ---- past the chunks below it, for block `b`
 
 -- the search has yet to pass `ks`: among them it finds the block, or that there is none
 pub record Going (a : List ℕ) (b link chunk : ℕ) (ks : List Chunk) : Type 0 where
@@ -53,19 +56,29 @@ pub record Going (a : List ℕ) (b link chunk : ℕ) (ks : List Chunk) : Type 0 
 pub search-begins : (a : List ℕ) (b : ℕ) → sound a ≡ true → Going a b listWord firstChunk (chunksOf a)
 search-begins a b e = record { left = all-left a e; goes = place-from (held b (chunksOf a)) }
 
+-- the arena ends below `b`
+pub search-in-vain : (a : List ℕ) (b : ℕ) → sound a ≡ true → length a ≤ b → Nowhere ≡ placeOf (held b (chunksOf a))
+unfolding placeOf
+search-in-vain a b e h =
+    let l = all-left a e in
+    rw (missed-nowhere (isBlock b) firstChunk (chunksOf a) (missed-below b firstChunk (chunksOf a) (l .sizes) (omega (arith, l .fills))))
+
 module _ (a : List ℕ) (b link chunk : ℕ) where
   -- the chunk at `chunk` is the block
-  pub search-stops : (s : ℕ) (ks : List Chunk) → Going a b link chunk (live s ∷ ks) → isBlock b chunk (live s) ≡ true
+  pub search-stops : (s : ℕ) (ks : List Chunk) → Going a b link chunk (live s ∷ ks) → chunk + headerWords ≡ b
       → At link chunk ≡ placeOf (held b (chunksOf a))
   unfolding lowest
-  search-stops s ks g t = sym (place-here link chunk (live s) ks) ∙ (rw t at (g .goes))
+  search-stops s ks g t = sym (place-here link chunk (live s) ks) ∙ (rw (eq-eqb (chunk + headerWords) b t) at (g .goes))
 
   -- it is another block
-  pub search-past-live : (s : ℕ) (ks : List Chunk) → Going a b link chunk (live s ∷ ks) → isBlock b chunk (live s) ≡ false
+  pub search-past-live : (s : ℕ) (ks : List Chunk) → Going a b link chunk (live s ∷ ks) → (chunk + headerWords ≡ b → ⊥)
       → Going a b link (chunk + s) ks
   unfolding lowest
   search-past-live s ks g t =
-      record { left = past a chunk (live s) ks (g .left); goes = sym (place-past-live link chunk s _) ∙ (rw t at (g .goes)) }
+      record {
+        left = past a chunk (live s) ks (g .left);
+        goes = sym (place-past-live link chunk s _) ∙ (rw (ne-eqb (chunk + headerWords) b t) at (g .goes));
+      }
 
   -- it is free
   pub search-past-free : (s : ℕ) (ks : List Chunk) → Going a b link chunk (free s ∷ ks) → Going a b (chunk + 1) (chunk + s) ks
@@ -73,11 +86,10 @@ module _ (a : List ℕ) (b link chunk : ℕ) where
   search-past-free s ks g =
       record { left = past a chunk (free s) ks (g .left); goes = sym (place-past-free link chunk s _) ∙ g .goes }
 
-  -- no chunk is left
-  pub search-ends : (ks : List Chunk) → Going a b link chunk ks → length a ≤ chunk → Nowhere ≡ placeOf (held b (chunksOf a))
-  unfolding lowest placeFrom
-  search-ends [] g h = g .goes
-  search-ends (k ∷ ks) g h = absurd (omega arith)
+  -- what is left lies above
+  pub search-above : (ks : List Chunk) → Going a b link chunk ks → b < chunk + headerWords → Nowhere ≡ placeOf (held b (chunksOf a))
+  unfolding placeFrom
+  search-above ks g h = rw (missed-nowhere (isBlock b) chunk ks (missed-above b chunk ks h)) at (g .goes)
 
 -- ---- along the free list, for the first chunk that passes a test
 

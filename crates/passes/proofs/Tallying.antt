@@ -1,8 +1,8 @@
--- How the two loops of the report come to its counts.
+-- How the loop along the free list comes to its counts.
 use mathlib.Core.Path.{_≡_, refl}
 use mathlib.Core.Bool.{true}
 use mathlib.Core.List.{List, [], _∷_}
-use Prim.Native.Nat.{ℕ, _+_, _-_, _≤_, max}
+use Prim.Native.Nat.{ℕ, _+_, _-_, max}
 use native.Mathlib.Omega.{arith}
 use lib.ListN.{length}
 use Rattle.layout.specs.Numbers.{firstChunk, listWord, headerWords, greatestLength}
@@ -11,12 +11,9 @@ use Rattle.layout.specs.Walk.{sound, chunksOf}
 use Rattle.layout.specs.Links.{freeList, Chain}
 use Rattle.layout.proofs.Chain.{chain}
 use Rattle.layout.proofs.Round.{sound-chunks}
-use Rattle.rules.specs.Rules.{freeWords, widest, liveBlocks, freeChunks}
+use Rattle.rules.specs.Rules.{freeWords, widest, freeChunks}
 use Rattle.passes.specs.Tallies.{freeTally}
 use Rattle.rules.proofs.ReportCounts.{Below, counts-small}
-use Rattle.passes.proofs.Passing.{Left, all-left, past}
-
--- ---- the free chunks, along their list
 
 -- what a list of free chunks comes to: its words, and its largest request
 abbrev wordsIn : List (ℕ × ℕ) → ℕ
@@ -78,25 +75,3 @@ free-ends a words largest chunks link g =
     let l : largest ≡ widest (chunksOf a) - headerWords = omega (arith, g .all-largest) in
     let n : chunks ≡ freeChunks (chunksOf a) = omega (arith, g .all-chunks) in
     rw (w, l, n)
-
--- ---- the live blocks, past every chunk
-
--- the loop has yet to pass `ks`; `blocks`, with the live ones of these, makes all live blocks
-pub record CountingLive (a : List ℕ) (blocks chunk : ℕ) (ks : List Chunk) : Type 0 where
-  pub left : Left a chunk ks
-  pub all-blocks : blocks + liveBlocks ks ≡ liveBlocks (chunksOf a)
-  pub small : Below greatestLength (chunksOf a)
-
-pub live-begins : (a : List ℕ) → sound a ≡ true → CountingLive a 0 firstChunk (chunksOf a)
-live-begins a e = record { left = all-left a e; all-blocks = omega arith; small = counts-small a e }
-
-module _ (a : List ℕ) (blocks chunk : ℕ) where
-  pub live-past-live : (s : ℕ) (ks : List Chunk) → CountingLive a blocks chunk (live s ∷ ks) → CountingLive a (blocks + 1) (chunk + s) ks
-  live-past-live s ks g = record { left = past a chunk (live s) ks (g .left); all-blocks = omega (arith, g .all-blocks); small = g .small }
-
-  pub live-past-free : (s : ℕ) (ks : List Chunk) → CountingLive a blocks chunk (free s ∷ ks) → CountingLive a blocks (chunk + s) ks
-  live-past-free s ks g = record { left = past a chunk (free s) ks (g .left); all-blocks = g .all-blocks; small = g .small }
-
-  pub live-ends : (ks : List Chunk) → CountingLive a blocks chunk ks → length a ≤ chunk → blocks ≡ liveBlocks (chunksOf a)
-  live-ends [] g h = omega (arith, g .all-blocks)
-  live-ends (k ∷ ks) g h = absurd (omega arith)

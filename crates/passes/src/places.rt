@@ -13,24 +13,34 @@ pub enum Place {
     Nowhere,
 }
 
-// The live chunk that block number `b` names: passes the chunks from the first on, as the check walk does.
+// The live chunk that block number `b` names: passes the chunks below the word where it would start, from the first on,
+// as the check walk does, and looks whether it stands there.
 pub fn find(a: &[u32], b: usize) -> Place
     requires { ⌜ sound (now a) ≡ true ⌝ }
     ensures { λ r. ⌜ r ≡ placeOf (held b (chunksOf (now (a .entry)))) ⌝ }
 {
+    if a.len() <= b {
+        return Place::Nowhere;
+    }
+    if b < layout::HEADER_WORDS {
+        return Place::Nowhere;
+    }
+    let start = b - layout::HEADER_WORDS;
     let mut link = layout::LIST_WORD;
     let mut chunk = layout::FIRST_CHUNK;
-    while chunk < a.len() {
-        if a[chunk + 1] == layout::LIVE_MARK {
-            if chunk + layout::HEADER_WORDS == b {
-                return Place::At(link, chunk);
-            }
-        } else {
+    while chunk < start {
+        if a[chunk + 1] != layout::LIVE_MARK {
             link = chunk + 1;
         }
         chunk += wide(a[chunk]);
     }
-    Place::Nowhere
+    if chunk != start {
+        return Place::Nowhere;
+    }
+    if a[chunk + 1] != layout::LIVE_MARK {
+        return Place::Nowhere;
+    }
+    Place::At(link, chunk)
 }
 
 // The lowest free chunk of at least `need` words: follows the links from the list's first word on.

@@ -1,10 +1,9 @@
-// Counting for the report: the free chunks along their list, the live ones in a pass over all chunks.
+// Counting for the report: the free chunks along their list.
 use layout::wide;
 ghost use mathlib.Core.Path.{_≡_};
 ghost use mathlib.Core.Bool.{true};
 ghost use Prim.Native.Nat.{max};
 ghost use Rattle.layout.specs.Walk.{sound, chunksOf};
-ghost use Rattle.rules.specs.Rules.{liveBlocks};
 ghost use Rattle.passes.specs.Tallies.{freeTally};
 
 // The free chunks counted: their words, the largest request that one of them holds, how many they are.
@@ -46,20 +45,4 @@ pub fn count_free(a: &[u32]) -> FreeTally
         largest,
         chunks,
     }
-}
-
-// Counts the live blocks of a sound arena. They are on no list, so every chunk is passed.
-pub fn count_live(a: &[u32]) -> usize
-    requires { ⌜ sound (now a) ≡ true ⌝ }
-    ensures { λ r. ⌜ r ≡ liveBlocks (chunksOf (now (a .entry))) ⌝ }
-{
-    let mut blocks = 0;
-    let mut chunk = layout::FIRST_CHUNK;
-    while chunk < a.len() {
-        if a[chunk + 1] == layout::LIVE_MARK {
-            blocks += 1;
-        }
-        chunk += wide(a[chunk]);
-    }
-    blocks
 }

@@ -1,19 +1,20 @@
 -- The two gates: what each comes to, and when.
 use mathlib.Core.Path.{_≡_, refl}
-use mathlib.Core.Bool.{Bool, true, false, cond, _&&_}
+use mathlib.Core.Bool.{Bool, true, false, cond}
 use mathlib.Core.List.{List}
 use Prim.Native.Nat.{ℕ, _≤_, _<_}
 use native.Mathlib.Omega.{arith}
 use lib.Dec.{leb, eqb}
-use lib.ListN.{length, getD}
+use lib.ListN.{length}
 use borrow.Author.Tests.{eqb-true, eqb-false, leb-true, leb-false, eq-eqb, ne-eqb, le-leb, lt-leb}
 use Rattle.layout.specs.Numbers.{lawful, greatestRequest, greatestLength, need}
-use Rattle.layout.specs.Walk.{sound, walked, isWhole}
+use Rattle.layout.specs.Walk.{sound}
 use Rattle.layout.specs.Reasons.{arenaGate, requestGate}
 use Rattle.layout.specs.declared.Gate.{Gate}
 use Rattle.layout.specs.declared.Gate.the-variants.{Open, Shut}
 use Rattle.layout.specs.declared.Reason.the-variants.{Length, Damaged, Zero, TooLarge}
-use Rattle.layout.proofs.Bools.{both, lawful-bounds}
+use Rattle.layout.proofs.Bools.{lawful-bounds}
+use Rattle.layout.proofs.Round.{sound-lawful}
 use Rattle.rules.specs.Rooms.{Needed}
 
 -- ---- what a gate comes to, and why
@@ -53,10 +54,6 @@ gate-open a e = go (checked a) e
     go (unlawful l) p = cc
     go (damaged l s) p = cc
     go (whole s) p = s
-
-pub sound-lawful : (a : List ℕ) → sound a ≡ true → lawful (length a) ≡ true
-unfolding sound
-sound-lawful a e = both (lawful (length a)) (eqb (getD a 0 0) (length a) && isWhole (walked a)) e .0
 
 -- a request that passes its gate is for some words, and no more than there can be
 request-bounds : (size n : ℕ) → Open ≡ requestGate size n → (1 ≤ n) × (n ≤ greatestRequest size)

@@ -17,7 +17,8 @@ use Rattle.rules.specs.Answers.{Outcome, done, settle, pass}
 use Rattle.rules.specs.Spots.{held}
 use Rattle.rules.specs.Rules.{Way, released, grantedAt, Regrant, regranted, resized, relocated}
 use Rattle.rules.specs.Calls.{onBlock, granted, startOn, allocBy, allocOn, freeOn, regrantBy, resizeOn, relocateOn, reallocOn, sizeOn, reportOn}
-use Rattle.rules.proofs.Gates.{sound-lawful, unlawful-gate, damaged-gate, sound-gate, zero-gate, large-gate, request-gate}
+use Rattle.layout.proofs.Round.{sound-lawful}
+use Rattle.rules.proofs.Gates.{unlawful-gate, damaged-gate, sound-gate, zero-gate, large-gate, request-gate}
 use Rattle.rules.proofs.Searches.{no-block-held, block-held, no-gap-fits}
 use Rattle.rules.specs.Causes.{Grounds, Short, StartRefused, ReportRefused, BlockRefused, AllocRefused, RegrantRefused, ResizeRefused}
 use Rattle.rules.specs.Causes.{RelocateRefused, ReallocRefused}

@@ -11,11 +11,11 @@ use Rattle.layout.specs.Walk.{sound, chunksOf}
 use Rattle.layout.specs.declared.Reason.{Reason}
 use Rattle.layout.proofs.Holds.{Lawful, sizes-split}
 use Rattle.layout.proofs.Written.{length-written}
-use Rattle.layout.proofs.Round.{sound-chunks, written-sound}
+use Rattle.layout.proofs.Round.{sound-lawful, sound-chunks, written-sound}
 use Rattle.rules.specs.Answers.{Outcome}
 use Rattle.rules.specs.Spots.{held}
 use Rattle.rules.specs.Rules.{joined, released, copied}
-use Rattle.rules.proofs.Gates.{sound-lawful, request-needed}
+use Rattle.rules.proofs.Gates.{request-needed}
 use Rattle.rules.proofs.Remainder.{cut-lawful}
 use Rattle.rules.proofs.Staying.{kept-lawful}
 use Rattle.rules.proofs.Copying.{length-copied}

@@ -12,7 +12,7 @@ use Rattle.layout.specs.Walk.{sound, chunksOf}
 use Rattle.layout.specs.declared.Reason.{Reason}
 use Rattle.layout.specs.declared.Reason.the-variants.{Length, Damaged, NotABlock, Zero, TooLarge, NoRoom, Frame, WouldMove}
 use Rattle.layout.proofs.Holds.{Sizes}
-use Rattle.layout.proofs.Round.{sound-chunks}
+use Rattle.layout.proofs.Round.{sound-lawful, sound-chunks}
 use Rattle.layout.proofs.Reasons.{number-positive}
 use Rattle.rules.specs.Answers.{Outcome}
 use Rattle.rules.specs.Rules.{widest}
@@ -21,7 +21,7 @@ use Rattle.rules.proofs.ReportCounts.{counts-within}
 use Rattle.rules.proofs.Searches.{FreeShorter, no-gap-shorter, free-shorter-tail}
 use Rattle.rules.specs.Causes.{AllocRefused}
 use Rattle.rules.proofs.CallCases.{Case, refuses, does, Allots, allots, alloc-case}
-use Rattle.rules.proofs.Gates.{sound-lawful, sound-gate}
+use Rattle.rules.proofs.Gates.{sound-gate}
 use Rattle.rules.proofs.Calls.{alloc-behaves}
 
 -- ---- the size of the largest free chunk

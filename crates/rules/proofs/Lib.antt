@@ -1,4 +1,5 @@
 -- The laws of the rules, and the theorems about the calls.
+pub mod Outcomes
 pub mod Gates
 pub mod Lowest
 pub mod Searches

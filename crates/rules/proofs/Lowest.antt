@@ -45,6 +45,12 @@ module _ (test : ℕ → Chunk → Bool) where
           (refl, tt, rw q e)
       go false e t = told-behind c k ks (lowest test (c + size k) ks) e t
 
+  -- where none passes, it is nowhere
+  pub missed-nowhere : (c : ℕ) (ks : List Chunk) → Missed c ks → lowest test c ks ≡ nowhere
+  unfolding lowest
+  missed-nowhere c [] m = refl
+  missed-nowhere c (k ∷ ks) m = rw (m .0, missed-nowhere (c + size k) ks (m .1))
+
   pub lowest-miss : (c : ℕ) (ks : List Chunk) → lowest test c ks ≡ nowhere → Missed c ks
   unfolding Told
   lowest-miss c ks e = rw e at (told c ks)

@@ -1,9 +1,11 @@
--- How large the report's counts can be: no count is more than the words of the chunks counted.
+-- How large the report's counts can be, no count being more than the words of the chunks counted; and that its live
+-- blocks and its free chunks are all chunks.
 use mathlib.Core.Path.{_≡_}
 use mathlib.Core.Bool.{true}
 use mathlib.Core.List.{List, [], _∷_}
-use Prim.Native.Nat.{ℕ, _≤_}
+use Prim.Native.Nat.{ℕ, _+_, _≤_}
 use native.Mathlib.Omega.{arith}
+use lib.ListN.{length}
 use Rattle.layout.specs.Numbers.{greatestLength}
 use Rattle.layout.specs.Chunks.{Chunk, free, live, total}
 use Rattle.layout.specs.Walk.{sound, chunksOf}
@@ -29,3 +31,9 @@ counts-small a e =
     let r = sound-chunks a e .law in
     let b = counts-within (chunksOf a) (r .sizes) in
     omega arith
+
+-- every chunk is live or free
+pub live-or-free : (ks : List Chunk) → length ks ≡ liveBlocks ks + freeChunks ks
+live-or-free [] = omega arith
+live-or-free (free s ∷ ks) = omega (arith, live-or-free ks)
+live-or-free (live s ∷ ks) = omega (arith, live-or-free ks)

@@ -84,10 +84,17 @@ no-block-held a b none = go (block-search a b)
     go (no-block h) = refl
     go (a-block pre s post is) = absurd (none (pre, s, post, is))
 
-missed-below : (b c : ℕ) (ks : List Chunk) → Sizes ks → b ≡ c + total ks + headerWords → Missed (isBlock b) c ks
+-- none of the chunks that end below `b`, or there, is block `b`
+pub missed-below : (b c : ℕ) (ks : List Chunk) → Sizes ks → c + total ks ≤ b → Missed (isBlock b) c ks
 missed-below b c [] z e = tt
 missed-below b c (free s ∷ ks) z e = (refl, missed-below b (c + s) ks (z .2) (omega arith))
 missed-below b c (live s ∷ ks) z e = (ne-eqb (c + headerWords) b (omega arith), missed-below b (c + s) ks (z .2) (omega arith))
+
+-- nor is one that begins above
+pub missed-above : (b c : ℕ) (ks : List Chunk) → b < c + headerWords → Missed (isBlock b) c ks
+missed-above b c [] h = tt
+missed-above b c (free s ∷ ks) h = (refl, missed-above b (c + s) ks (omega arith))
+missed-above b c (live s ∷ ks) h = (ne-eqb (c + headerWords) b (omega arith), missed-above b (c + s) ks (omega arith))
 
 -- a live chunk is found by its number
 pub held-at : (ks pre : List Chunk) (s : ℕ) (post : List Chunk) (b : ℕ) → Sizes ks → Stands ks pre (live s) post b → held b ks ≡ at pre (live s) post

@@ -17,7 +17,7 @@ use Rattle.layout.proofs.Holds.{Sizes, Lawful, total-append}
 use Rattle.layout.proofs.Payload.{inside-kept}
 use Rattle.layout.proofs.Written.{Arena, written-fixed, written-arena}
 use Rattle.layout.proofs.Chain.{chain-behind, chain-first}
-use Rattle.layout.proofs.Round.{sound-chunks}
+use Rattle.layout.proofs.Round.{sound-lawful, sound-chunks}
 use Rattle.rules.specs.Answers.{Outcome, done, settle}
 use Rattle.rules.specs.Spots.{at}
 use Rattle.rules.specs.Rules.{Grant, Way, orElse, trim, stay, shrink, grow, move, Regrant, regranted, resized}
@@ -28,7 +28,7 @@ use Rattle.rules.proofs.Rooms.{room-words}
 use Rattle.rules.proofs.Remainder.{takes-all}
 use Rattle.rules.proofs.Searches.{BlockAt, block-sizes, block-held}
 use Rattle.rules.specs.Causes.{Request}
-use Rattle.rules.proofs.Gates.{sound-gate, sound-lawful, request-gate, request-needed}
+use Rattle.rules.proofs.Gates.{sound-gate, request-gate, request-needed}
 use Rattle.rules.proofs.Staying.{in-room, its-need, kept-lawful}
 
 -- ---- how many words the block keeps

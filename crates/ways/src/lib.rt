@@ -1,4 +1,5 @@
-// The ways to grant: a new block (`allot`), and a block anew, where it stands (`staying`) or elsewhere (`moving`).
+// The ways to grant: a new block (`allot`), and a block anew (`regrant_at`), where it stands (`staying`) or elsewhere
+// (`moving`).
 pub mod moving;
 pub mod staying;
 
@@ -9,8 +10,10 @@ ghost use mathlib.Core.Bool.{true};
 ghost use Prim.Native.Nat.{_≤_};
 ghost use Rattle.layout.specs.Numbers.{greatestLength};
 ghost use Rattle.layout.specs.Walk.{sound};
+ghost use Rattle.rules.specs.Rules.{regranted};
 ghost use Rattle.rules.specs.Rooms.{Needed};
-ghost use Rattle.ways.specs.Ways.{Follows, allotting, grantsOf};
+ghost use Rattle.passes.specs.Places.{LiveAt};
+ghost use Rattle.ways.specs.Ways.{Follows, FollowsAt, allotting, grantsOf};
 
 // What a call that grants comes to: a block and its granted words, or nothing, and then nothing was changed.
 pub enum Way {
@@ -39,4 +42,16 @@ pub fn allot(a: &mut [u32], need: usize) -> Way
         return Way::Shut;
     };
     grants(stores::taking::take(a, link, chunk, need))
+}
+
+// The three ways in their order: the block stays where it is or, if it cannot, it moves.
+pub fn regrant_at(a: &mut [u32], link: usize, chunk: usize, need: usize) -> Way
+    requires { ⌜ LiveAt (now a) link chunk × Needed need ⌝ }
+    ensures { λ r. ⌜ FollowsAt regranted (now (a .entry)) link chunk need r (now (a .exit)) ⌝ }
+{
+    let way = staying::resize_at(a, link, chunk, need);
+    if let Way::Shut = way {
+        return moving::relocate_at(a, link, chunk, need);
+    }
+    way
 }

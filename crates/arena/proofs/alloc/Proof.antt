@@ -7,8 +7,9 @@ use Rattle.layout.specs.Numbers.{lawful}
 use Rattle.layout.specs.Reasons.{arenaGate, requestGate}
 use Rattle.layout.specs.declared.Gate.the-variants.{Open}
 use Rattle.rules.specs.Calls.{allocBy}
-use Rattle.rules.proofs.Gates.{gate-open, sound-lawful, request-small, request-open}
-use Rattle.arena.proofs.Granting.{way-gives}
+use Rattle.layout.proofs.Round.{sound-lawful}
+use Rattle.rules.proofs.Gates.{gate-open, request-small, request-open}
+use Rattle.targets.proofs.Granting.{way-gives}
 use Rattle.arena.proofs.alloc.Statement.{statement}
 use Rattle.arena.proofs.alloc.Tie as tie
 

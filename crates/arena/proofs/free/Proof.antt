@@ -5,7 +5,7 @@ use Rattle.layout.specs.Reasons.{arenaGate}
 use Rattle.layout.specs.declared.Gate.the-variants.{Open}
 use Rattle.rules.specs.Calls.{freeOn}
 use Rattle.passes.proofs.Finding.{FoundBlock}
-use Rattle.arena.proofs.Locating.{not-located, block-located}
+use Rattle.targets.proofs.Locating.{not-located, block-located}
 use Rattle.arena.proofs.free.Statement.{statement}
 use Rattle.arena.proofs.free.Tie as tie
 

@@ -1,82 +1,92 @@
--- `report` meets its contract: what `check_arena`, `count_free` and `count_live` ensure says what `reportOn` is, and
--- the counts of a sound arena fit a word.
+-- `report` meets its contract: what `count_chunks` and `count_free` ensure says what `reportOn` is, and the counts of a
+-- sound arena fit a word.
+use Prim.Native.Nat.{_-_}
 use mathlib.Core.Path.{_≡_, refl, sym, _∙_}
-use borrow.Author.Needs.{needs}
+use mathlib.Core.Bool.{true}
 use native.Mathlib.Omega.{arith}
+use lib.ListN.{length}
+use borrow.Author.Needs.{needs}
 use Rattle.layout.specs.Numbers.{greatestLength}
-use Rattle.layout.specs.Walk.{chunksOf}
+use Rattle.layout.specs.Walk.{sound, chunksOf}
 use Rattle.layout.specs.Reasons.{arenaGate}
 use Rattle.layout.specs.declared.Gate.the-variants.{Open}
+use Rattle.walk.proofs.Counted.{chunks-open, no-chunks-shut}
+use Rattle.rules.specs.Rules.{liveBlocks}
 use Rattle.rules.specs.Calls.{reportOn}
 use Rattle.rules.proofs.Gates.{gate-open}
-use Rattle.rules.proofs.ReportCounts.{Below, counts-small}
+use Rattle.rules.proofs.ReportCounts.{Below, counts-small, live-or-free}
 use Rattle.arena.proofs.report.Statement.{statement}
 use Rattle.arena.proofs.report.Tie as tie
 
--- the place of the walk where the call began, before the arena's gate
-abbrev began : tie.After-enum-told → tie.Start
-began c = c .before .before .before .before
+-- the arena's gate is open, and its chunks are counted
+counted : (c : tie.Else1) → let a = c .before .before .before .args .a .now in
+    (Open ≡ arenaGate a) × (c .before .count-chunks .result ≡ length (chunksOf a))
+counted c = chunks-open _ _ (c .before .count-chunks .ensures) (c .if1 .left)
 
--- the arena's gate is open
-arena-open : (c : tie.After-enum-told) → Open ≡ arenaGate (began c .args .a .now)
-arena-open c = sym (c .enum-told .given .1) ∙ c .before .before .check-arena .ensures
+-- so the arena is sound, and the counts fit a word
+is-sound : (c : tie.Else1) → sound (c .before .before .before .args .a .now) ≡ true
+is-sound c = gate-open _ (counted c .0)
 
-check-arena-requires : tie.Need-check-arena-requires
-check-arena-requires c κs = search needs
+small : (c : tie.Else1) → Below greatestLength (chunksOf (c .before .before .before .args .a .now))
+small c = counts-small _ (is-sound c)
 
-enum-known-arena : tie.Need-enum-known-arena
-enum-known-arena c = search needs
+-- the chunks that are not on the list are live
+live : (c : tie.After-count-free) → let ks = chunksOf (c .before .before .before .before .args .a .now) in
+    c .before .before .count-chunks .result - c .count-free .result .chunks ≡ liveBlocks ks
+live c =
+    let ks = chunksOf (c .before .before .before .before .args .a .now) in
+    rw (c .count-free .ensures) (omega (arith, counted (c .before) .1, live-or-free ks))
+
+count-chunks-requires : tie.Need-count-chunks-requires
+count-chunks-requires c κs = search needs
+
+fault-requires : tie.Need-fault-requires
+fault-requires c κs = search needs
 
 returns : tie.Need-returns
 unfolding reportOn
 returns c =
-    rw (← sym (c .before .arena .given .1) ∙ c .before .before .before .check-arena .ensures)
+    let d = c .before in
+    rw (c .fault .ensures, ← no-chunks-shut _ (sym (d .if1 .taken) ∙ d .before .count-chunks .ensures))
     (record { answers = refl; leaves = refl })
 
-enum-told : tie.Need-enum-told
-enum-told c = search needs
-
--- what was counted fits a word
-small : (c : tie.After-count-live) → Below greatestLength (chunksOf (began (c .before .before) .args .a .now))
-small c = counts-small _ (gate-open _ (arena-open (c .before .before)))
-
 count-free-requires : tie.Need-count-free-requires
-count-free-requires c κs = gate-open _ (arena-open c)
+count-free-requires c κs = is-sound c
 
-count-live-requires : tie.Need-count-live-requires
-count-live-requires c κs = gate-open _ (arena-open (c .before))
-
-cast-t6 : tie.Need-cast-t6
-cast-t6 c = rw (c .before .before .count-free .ensures) (omega (arith, small (c .before)))
-
-cast-t7 : tie.Need-cast-t7
-cast-t7 c = rw (c .before .before .before .count-free .ensures) (omega (arith, small (c .before .before)))
+sub-live : tie.Need-sub-live
+sub-live c =
+    let ks = chunksOf (c .before .before .before .before .before .args .a .now) in
+    rw (c .before .count-free .ensures) (omega (arith, counted (c .before .before) .1, live-or-free ks))
 
 cast-t8 : tie.Need-cast-t8
-cast-t8 c = rw (c .before .before .count-live .ensures) (omega (arith, small (c .before .before)))
+cast-t8 c = let d = c .before .before in rw (d .count-free .ensures) (omega (arith, small (d .before)))
 
 cast-t9 : tie.Need-cast-t9
-cast-t9 c = rw (c .before .before .before .before .count-free .ensures) (omega (arith, small (c .before .before .before)))
+cast-t9 c = let d = c .before .before .before in rw (d .count-free .ensures) (omega (arith, small (d .before)))
+
+cast-t10 : tie.Need-cast-t10
+cast-t10 c = let d = c .before .before .before in rw (live d) (omega (arith, small (d .before)))
+
+cast-t11 : tie.Need-cast-t11
+cast-t11 c = let d = c .before .before .before .before in rw (d .count-free .ensures) (omega (arith, small (d .before)))
 
 returns-2 : tie.Need-returns-2
 unfolding reportOn
 returns-2 c =
-    let d = c .before .before .before in
-    rw (← arena-open (d .before .before), d .before .count-free .ensures, d .count-live .ensures)
-    (record { answers = refl; leaves = refl })
+    let d = c .before .before .before .before in
+    rw (← counted (d .before) .0, live d, d .count-free .ensures) (record { answers = refl; leaves = refl })
 
 pub report-spec : {M : Type 1} → statement M
 report-spec =
     tie.close
     (tie.spec
-    check-arena-requires
-    enum-known-arena
+    count-chunks-requires
+    fault-requires
     returns
-    enum-told
     count-free-requires
-    count-live-requires
-    cast-t6
-    cast-t7
+    sub-live
     cast-t8
     cast-t9
+    cast-t10
+    cast-t11
     returns-2)

@@ -12,7 +12,7 @@ use Rattle.rules.specs.Answers.{success}
 use Rattle.rules.specs.Calls.{sizeOn}
 use Rattle.passes.proofs.Standing.{Reads, reads}
 use Rattle.passes.proofs.Finding.{FoundBlock}
-use Rattle.arena.proofs.Locating.{not-located, block-located}
+use Rattle.targets.proofs.Locating.{not-located, block-located}
 use Rattle.arena.proofs.size.Statement.{statement}
 use Rattle.arena.proofs.size.Tie as tie
 

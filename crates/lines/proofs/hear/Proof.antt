@@ -8,7 +8,7 @@ use lib.ListN.{length, getD, take, length-take}
 use lib.Seq.{take-suc}
 use borrow.Author.Needs.{needs}
 use Rattle.digits.proofs.Putting.{put-length}
-use Rattle.lines.specs.Boards.{lending, longestReply}
+use Rattle.replies.specs.Boards.{lending, longestReply}
 use Rattle.lines.proofs.Hearing.{HeardSoFar, none-heard, heard-on, answerable-taken, all-heard}
 use Rattle.lines.proofs.hear.Statement.{statement}
 use Rattle.lines.proofs.hear.Tie as tie

@@ -1,54 +1,64 @@
 -- `places::find` meets its contract. The loop's invariant: the chunks from `chunk` on are left, and `link` is the
 -- second word of the last free one before them, or the list's first word.
 -- The measure is what is left of the words.
-use Prim.Native.Nat.{_+_, _-_, _≤_}
+use Prim.Native.Nat.{_+_, _-_, _≤_, _<_}
+use mathlib.Core.Path.{_≡_}
 use mathlib.Core.Logic.{⊎-elim}
 use mathlib.Core.List.{List}
 use native.Mathlib.Omega.{arith}
 use lib.ListN.{length, getD}
 use borrow.Author.Needs.{needs}
-use borrow.Author.Tests.{eq-eqb, ne-eqb}
-use Rattle.layout.specs.Numbers.{leastSize}
+use Rattle.layout.specs.Numbers.{leastSize, headerWords}
 use Rattle.layout.specs.Chunks.{Chunk}
 use Rattle.passes.proofs.Passing.{size-here, live-here, free-here}
-use Rattle.passes.proofs.Searching.{Going, search-begins, search-stops, search-past-live, search-past-free, search-ends}
+use Rattle.passes.proofs.Searching.{Going, search-begins, search-in-vain, search-stops, search-past-live, search-past-free, search-above}
 use Rattle.passes.proofs.places.find.Statement.{statement}
 use Rattle.passes.proofs.places.find.Tie as tie
 
 abbrev Inv-loop : tie.InvT-loop
-Inv-loop a b link₀ chunk₀ link chunk = (ks : List Chunk) × Going a b link chunk ks
+Inv-loop a b start link₀ chunk₀ link chunk = (ks : List Chunk) × Going a b link chunk ks
 
 abbrev μ-loop : tie.MeasureT-loop
-μ-loop a b link₀ chunk₀ link chunk = length a - chunk
+μ-loop a b start link₀ chunk₀ link chunk = length a - chunk
 
--- the size of the chunk at `chunk`
+-- where the call began, before the loop
+abbrev began : tie.Else2 Inv-loop μ-loop → tie.Start Inv-loop μ-loop
+began c = c .before .before .before
+
+-- a chunk is left where the loop goes on
+inside : (c : tie.In-loop Inv-loop μ-loop) → c .before .loop .chunk < length (began (c .before .before) .args .a .now)
+inside c = omega (arith, c .loop-test .taken, c .before .before .before .if1 .left)
+
+-- its size
 sized : (c : tie.In-loop Inv-loop μ-loop)
-    → let a = c .before .before .before .args .a .now in
+    → let a = began (c .before .before) .args .a .now in
     let chunk = c .before .loop .chunk in
     (leastSize ≤ getD a chunk 0) × (chunk + getD a chunk 0 ≤ length a)
-sized c = let (ks, g) = c .before .loop .inv in size-here _ _ ks (g .left) (c .loop-test .taken)
+sized c = let (ks, g) = c .before .loop .inv in size-here _ _ ks (g .left) (inside c)
 
-loop-holds : tie.Need-loop-holds Inv-loop μ-loop
-loop-holds c = (_, search-begins (c .before .args .a .now) (c .before .args .b) (c .before .pre))
-
-add-if1 : tie.Need-add-if1 Inv-loop μ-loop
-add-if1 c = search needs
-
-mul-if1 : tie.Need-mul-if1 Inv-loop μ-loop
-mul-if1 c = search needs
-
-shared-slice-read-if1 : tie.Need-shared-slice-read-if1 Inv-loop μ-loop
-shared-slice-read-if1 c = omega (arith, sized (c .before))
-
-add-if2 : tie.Need-add-if2 Inv-loop μ-loop
-add-if2 c = search needs
+-- a chunk is left where the loop has ended at the block's chunk
+reached : (c : tie.Else4 Inv-loop μ-loop) → c .before .before .loop .chunk < length (began (c .before .before .before) .args .a .now)
+reached c = omega (arith, c .if4 .left, c .before .before .before .before .if1 .left)
 
 returns : tie.Need-returns Inv-loop μ-loop
-returns c =
+returns c = search-in-vain _ _ (c .before .before .pre) (c .if1 .taken)
+
+returns-2 : tie.Need-returns-2 Inv-loop μ-loop
+returns-2 c =
     let d = c .before .before .before in
-    let (ks, g) = d .before .loop .inv in
-    let (ls, e) = live-here _ _ ks (g .left) (d .loop-test .taken) (c .before .if1 .taken) in
-    search-stops _ _ _ _ _ ls (rw e at g) (eq-eqb _ _ (c .if2 .taken))
+    search-above _ _ _ _ _ (search-begins _ (d .args .b) (d .pre)) (omega (arith, c .if2 .taken))
+
+loop-holds : tie.Need-loop-holds Inv-loop μ-loop
+loop-holds c = (_, search-begins _ (began c .args .b) (began c .pre))
+
+add-if3 : tie.Need-add-if3 Inv-loop μ-loop
+add-if3 c = let (ks, g) = c .before .loop .inv in omega (arith, g .left .fills, g .left .most)
+
+mul-if3 : tie.Need-mul-if3 Inv-loop μ-loop
+mul-if3 c = search needs
+
+shared-slice-read-if3 : tie.Need-shared-slice-read-if3 Inv-loop μ-loop
+shared-slice-read-if3 c = omega (arith, sized (c .before))
 
 add-link : tie.Need-add-link Inv-loop μ-loop
 add-link c = search needs
@@ -57,16 +67,16 @@ mul-wide : tie.Need-mul-wide Inv-loop μ-loop
 mul-wide c = search needs
 
 shared-slice-read-wide : tie.Need-shared-slice-read-wide Inv-loop μ-loop
-shared-slice-read-wide c = search needs
+shared-slice-read-wide c = omega (arith, inside (c .before .before .before))
 
 wide-requires : tie.Need-wide-requires Inv-loop μ-loop
 wide-requires c κs = search needs
 
 add-chunk : tie.Need-add-chunk Inv-loop μ-loop
-add-chunk c = omega (arith, sized (c .before .before .before .before))
+add-chunk c = omega (arith, sized (c .before .before .before .before), c .wide .ensures)
 
 loop-less : tie.Need-loop-less Inv-loop μ-loop
-loop-less c = omega (arith, sized (c .before .before .before .before))
+loop-less c = omega (arith, sized (c .before .before .before .before), c .wide .ensures)
 
 loop-again : tie.Need-loop-again Inv-loop μ-loop
 loop-again c =
@@ -75,15 +85,44 @@ loop-again c =
     let (ks, g) = i .before .loop .inv in
     ⊎-elim
     (λ w.
-    let (ls, e) = live-here _ _ ks (g .left) (i .loop-test .taken) (w .0 .taken) in
-    (ls, rw (w .2, c .wide .ensures) (search-past-live _ _ _ _ _ ls (rw e at g) (ne-eqb _ _ (w .1 .left)))))
-    (λ w.
-    let (ls, e) = free-here _ _ ks (g .left) (i .loop-test .taken) (w .0 .left) in
+    let (ls, e) = free-here _ _ ks (g .left) (inside i) (w .0 .taken) in
     (ls, rw (w .1, c .wide .ensures) (search-past-free _ _ _ _ _ ls (rw e at g))))
-    (d .if1 .came)
+    (λ w.
+    let (ls, e) = live-here _ _ ks (g .left) (inside i) (w .0 .left) in
+    let other : i .before .loop .chunk + headerWords ≡ began (i .before .before) .args .b → ⊥ = omega (arith, i .loop-test .taken) in
+    (ls, rw (w .1, c .wide .ensures) (search-past-live _ _ _ _ _ ls (rw e at g) other)))
+    (d .if3 .came)
 
-returns-2 : tie.Need-returns-2 Inv-loop μ-loop
-returns-2 c = let (ks, g) = c .before .loop .inv in search-ends _ _ _ _ ks g (c .loop-test .left)
+returns-3 : tie.Need-returns-3 Inv-loop μ-loop
+returns-3 c =
+    let (ks, g) = c .before .before .loop .inv in
+    search-above _ _ _ _ ks g (omega (arith, c .before .loop-test .left, c .if4 .taken, c .before .before .before .if2 .left))
+
+add-if5 : tie.Need-add-if5 Inv-loop μ-loop
+add-if5 c = let (ks, g) = c .before .before .loop .inv in omega (arith, g .left .fills, g .left .most)
+
+mul-if5 : tie.Need-mul-if5 Inv-loop μ-loop
+mul-if5 c = search needs
+
+shared-slice-read-if5 : tie.Need-shared-slice-read-if5 Inv-loop μ-loop
+shared-slice-read-if5 c =
+    let at-else4 = c .before in
+    omega (arith, at-else4 .if4 .left, at-else4 .before .before .before .if2 .left, at-else4 .before .before .before .before .if1 .left)
+
+returns-4 : tie.Need-returns-4 Inv-loop μ-loop
+returns-4 c =
+    let found = c .before .before in
+    let (ks, g) = found .before .before .loop .inv in
+    let (ls, e) = free-here _ _ ks (g .left) (reached found) (c .if5 .taken) in
+    search-above _ _ _ _ ls (search-past-free _ _ _ _ _ ls (rw e at g))
+    (omega (arith, found .if4 .left, found .before .before .before .if2 .left, size-here _ _ ks (g .left) (reached found)))
+
+returns-5 : tie.Need-returns-5 Inv-loop μ-loop
+returns-5 c =
+    let found = c .before .before in
+    let (ks, g) = found .before .before .loop .inv in
+    let (ls, e) = live-here _ _ ks (g .left) (reached found) (c .if5 .left) in
+    search-stops _ _ _ _ _ ls (rw e at g) (omega (arith, found .if4 .left, found .before .before .before .if2 .left))
 
 pub find-spec : {M : Type 1} → statement M
 find-spec =
@@ -91,12 +130,12 @@ find-spec =
     (tie.spec
     Inv-loop
     μ-loop
-    loop-holds
-    add-if1
-    mul-if1
-    shared-slice-read-if1
-    add-if2
     returns
+    returns-2
+    loop-holds
+    add-if3
+    mul-if3
+    shared-slice-read-if3
     add-link
     mul-wide
     shared-slice-read-wide
@@ -104,4 +143,9 @@ find-spec =
     add-chunk
     loop-less
     loop-again
-    returns-2)
+    returns-3
+    add-if5
+    mul-if5
+    shared-slice-read-if5
+    returns-4
+    returns-5)

@@ -1,0 +1,52 @@
+/* The libraries that are measured. */
+#include "library.h"
+
+#include "plain.h"
+
+const struct library ours = {
+    zv_start, zv_alloc, zv_free, zv_resize, zv_relocate, zv_realloc, zv_size, zv_report,
+};
+
+const struct library plain = {
+    plain_start, plain_alloc, plain_free, plain_resize, plain_relocate, plain_realloc, plain_size, plain_report,
+};
+
+static uint32_t idle_start(uint32_t *arena, size_t words)
+{
+    (void)arena, (void)words;
+    return ZV_DONE;
+}
+
+static uint32_t idle_alloc(uint32_t *arena, size_t words, uint32_t n, uint32_t answer[2])
+{
+    (void)arena, (void)words, (void)n, (void)answer;
+    return ZV_DONE;
+}
+
+static uint32_t idle_free(uint32_t *arena, size_t words, uint32_t b)
+{
+    (void)arena, (void)words, (void)b;
+    return ZV_DONE;
+}
+
+static uint32_t idle_grant(uint32_t *arena, size_t words, uint32_t b, uint32_t n, uint32_t answer[2])
+{
+    (void)arena, (void)words, (void)b, (void)n, (void)answer;
+    return ZV_DONE;
+}
+
+static uint32_t idle_size(const uint32_t *arena, size_t words, uint32_t b, uint32_t answer[1])
+{
+    (void)arena, (void)words, (void)b, (void)answer;
+    return ZV_DONE;
+}
+
+static uint32_t idle_report(const uint32_t *arena, size_t words, uint32_t answer[4])
+{
+    (void)arena, (void)words, (void)answer;
+    return ZV_DONE;
+}
+
+const struct library idle = {
+    idle_start, idle_alloc, idle_free, idle_grant, idle_grant, idle_grant, idle_size, idle_report,
+};

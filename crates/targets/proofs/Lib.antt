@@ -1,0 +1,3 @@
+-- The laws of the calls' gates, and of their answers.
+pub mod Locating
+pub mod Granting

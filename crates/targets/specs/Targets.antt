@@ -1,0 +1,48 @@
+-- What a call is asked for, and what it answers, as the functions inside say it. No public contract cites this file.
+use Prim.Native.Nat.{ℕ}
+use mathlib.Core.List.{List}
+use lib.ListN.{length}
+use Rattle.layout.specs.Numbers.{need}
+use Rattle.layout.specs.Walk.{chunksOf}
+use Rattle.layout.specs.Reasons.{arenaGate, requestGate}
+use Rattle.layout.specs.declared.Gate.{Gate}
+use Rattle.layout.specs.declared.Gate.the-variants.{Open, Shut}
+use Rattle.layout.specs.declared.Reason.{Reason}
+use Rattle.layout.specs.declared.Reason.the-variants.{NotABlock}
+use Rattle.rules.specs.Spots.{held}
+use Rattle.answers.specs.declared.Granted.{Granted}
+use Rattle.answers.specs.declared.Granted.the-variants.{Block as NewBlock, Refused as NotGranted}
+use Rattle.passes.specs.Places.{placeOf}
+use Rattle.passes.specs.declared.places.Place.{Place}
+use Rattle.passes.specs.declared.places.Place.the-variants.{At, Nowhere}
+use Rattle.ways.specs.declared.Way.{Way}
+use Rattle.ways.specs.declared.Way.the-variants.{Grants, Shut as NoWay}
+use Rattle.targets.specs.declared.Located.{Located}
+use Rattle.targets.specs.declared.Located.the-variants.{Chunk, Refused as NotLocated}
+use Rattle.targets.specs.declared.Target.{Target}
+use Rattle.targets.specs.declared.Target.the-variants.{Block, Refused as NoTarget}
+
+-- by the arena's gate and by what the search for the block answers
+abbrev pub locatedBy : Gate → Place → Located
+locatedBy (Shut why) place = NotLocated why
+locatedBy Open Nowhere = NotLocated NotABlock
+locatedBy Open (At link chunk) = Chunk link chunk
+
+-- where block `b` stands, or why a call on it is refused: the arena is looked at first, then the block
+unfoldable pub located : List ℕ → ℕ → Located
+located a b = locatedBy (arenaGate a) (placeOf (held b (chunksOf a)))
+
+-- by where the block stands and by the request's gate
+abbrev pub targetBy : Located → Gate → ℕ → Target
+targetBy (NotLocated why) request need = NoTarget why
+targetBy (Chunk link chunk) (Shut why) need = NoTarget why
+targetBy (Chunk link chunk) Open need = Block link chunk need
+
+-- the block and the need that a call is asked for, or why it is refused: the block is looked at first, then the request
+unfoldable pub targetOf : List ℕ → ℕ → ℕ → Target
+targetOf a b n = targetBy (located a b) (requestGate (length a) n) (need n)
+
+-- a way as the answer of a call that grants; `why` is what the call says where it is shut
+abbrev pub grantedOf : Reason → Way → Granted
+grantedOf why (Grants block granted) = NewBlock block granted
+grantedOf why NoWay = NotGranted why

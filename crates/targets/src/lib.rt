@@ -1,0 +1,73 @@
+// What a call asks for, once nothing stands in its way, and what it answers. The reasons are looked for in the order of
+// their numbers.
+use answers::Granted;
+use layout::Gate;
+use layout::Reason;
+use layout::wide;
+use passes::places;
+use passes::places::Place;
+use ways::Way;
+ghost use mathlib.Core.Path.{_≡_};
+ghost use Rattle.targets.specs.Targets.{located, targetOf, grantedOf};
+
+// A block's chunk, and its link word; or why a call on the block is refused.
+pub enum Located {
+    Chunk { link: usize, chunk: usize },
+    Refused(Reason),
+}
+
+// Block `b`: the arena is checked, and the block is searched for.
+pub fn locate(a: &[u32], b: u32) -> Located
+    ensures { λ r. ⌜ r ≡ located (now (a .entry)) b ⌝ }
+{
+    let arena = walk::check_arena(a);
+    if let Gate::Shut(why) = arena {
+        return Located::Refused(why);
+    }
+    let place = places::find(a, wide(b));
+    let Place::At(link, chunk) = place else {
+        return Located::Refused(Reason::NotABlock);
+    };
+    Located::Chunk { link, chunk }
+}
+
+// The chunk of a block that is granted anew, its link word, and the need; or why the call is refused.
+pub enum Target {
+    Block {
+        link: usize,
+        chunk: usize,
+        need: usize,
+    },
+    Refused(Reason),
+}
+
+// Block `b` and the need of `n` words.
+pub fn target_of(a: &[u32], b: u32, n: u32) -> Target
+    ensures { λ r. ⌜ r ≡ targetOf (now (a .entry)) b n ⌝ }
+{
+    let located = locate(a, b);
+    match located {
+        Located::Chunk { link, chunk } => {
+            let request = layout::check_request(a.len(), wide(n));
+            if let Gate::Shut(why) = request {
+                return Target::Refused(why);
+            }
+            Target::Block {
+                link,
+                chunk,
+                need: layout::need(wide(n)),
+            }
+        }
+        Located::Refused(why) => Target::Refused(why),
+    }
+}
+
+// A way as the answer of a call that grants; `why` is what the call says where it is shut.
+pub fn answer(way: Way, why: Reason) -> Granted
+    ensures { λ r. ⌜ r ≡ grantedOf why way ⌝ }
+{
+    match way {
+        Way::Grants(block, granted) => Granted::Block { block, granted },
+        Way::Shut => Granted::Refused(why),
+    }
+}

@@ -1,0 +1,47 @@
+-- The code and the fields that go into a lent array are together the answer.
+use Prim.Native.Nat.{ℕ}
+use mathlib.Core.Path.{_≡_, refl, sym, ap, _∙_}
+use mathlib.Core.List.{List, [], _∷_}
+use lib.ListN.{getD}
+use Rattle.rules.specs.Answers.{Answer, Outcome}
+use Rattle.answers.specs.Readings.{finishNumbers, grantedNumbers, sizedNumbers, reportedNumbers}
+use Rattle.answers.specs.Padded.{padded}
+use Rattle.answers.specs.Determined.{Determined}
+use Rattle.answers.specs.declared.Finish.{Finish}
+use Rattle.answers.specs.declared.Finish.the-variants.{Done, Refused as NotDone}
+use Rattle.answers.specs.declared.Granted.{Granted}
+use Rattle.answers.specs.declared.Granted.the-variants.{Block, Refused as NotGranted}
+use Rattle.answers.specs.declared.Sized.{Sized}
+use Rattle.answers.specs.declared.Sized.the-variants.{Words, Refused as NotSized}
+use Rattle.answers.specs.declared.Reported.{Reported}
+use Rattle.answers.specs.declared.Reported.the-variants.{Counts, Refused as NotReported}
+use Rattle.zandervlecht.specs.Returned.{returned}
+
+-- ---- the answers, by their numbers
+
+pub finish-returned : (r : Finish) → returned (padded (finishNumbers r) .code) [] ≡ finishNumbers r
+finish-returned Done = refl
+finish-returned (NotDone why) = refl
+
+pub granted-returned : (r : Granted)
+    → let x = padded (grantedNumbers r) in returned (x .code) (getD (x .fields) 0 0 ∷ getD (x .fields) 1 0 ∷ []) ≡ grantedNumbers r
+granted-returned (Block block granted) = refl
+granted-returned (NotGranted why) = refl
+
+pub sized-returned : (r : Sized) → let x = padded (sizedNumbers r) in returned (x .code) (getD (x .fields) 0 0 ∷ []) ≡ sizedNumbers r
+sized-returned (Words granted) = refl
+sized-returned (NotSized why) = refl
+
+pub reported-returned : (r : Reported)
+    → let x = padded (reportedNumbers r) in
+    returned (x .code) (getD (x .fields) 0 0 ∷ getD (x .fields) 1 0 ∷ getD (x .fields) 2 0 ∷ getD (x .fields) 3 0 ∷ []) ≡ reportedNumbers r
+reported-returned (Counts freeWords largest liveBlocks freeChunks) = refl
+reported-returned (NotReported why) = refl
+
+-- ---- a contract leaves no choice
+
+-- two codes, arrays and arenas that give an outcome are the same
+pub returned-determined : (outcome : Outcome) → Determined (λ (x : ℕ × List ℕ). returned (x .0) (x .1)) outcome
+returned-determined outcome r r′ after after′ g g′ =
+    let e : returned (r .0) (r .1) ≡ returned (r′ .0) (r′ .1) = g .answers ∙ sym (g′ .answers) in
+    (ap (λ (x : Answer). (x .code, x .values)) e, g .leaves ∙ sym (g′ .leaves))

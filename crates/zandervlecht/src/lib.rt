@@ -1,0 +1,117 @@
+// The calls for C: each returns its code, and stores the fields of its answer into a lent array. The header is
+// include/zandervlecht.h. A view needs no function: it is the words from the block's number on, as many as `zv_size`
+// answers.
+use answers::Finish;
+use answers::Granted;
+use answers::Reported;
+use answers::Sized;
+ghost use mathlib.Core.Path.{_≡_};
+ghost use mathlib.Core.List.{[]};
+ghost use Rattle.rules.specs.Answers.{Gives};
+ghost use Rattle.rules.specs.Calls.{startOn, allocOn, freeOn, resizeOn, relocateOn, reallocOn, sizeOn, reportOn};
+ghost use Rattle.answers.specs.Readings.{finishNumbers, grantedNumbers, sizedNumbers, reportedNumbers};
+ghost use Rattle.zandervlecht.specs.Returned.{returned};
+
+// Makes the whole arena one free chunk.
+#[no_mangle]
+pub extern "C" fn zv_start(a: &mut [u32]) -> u32
+    ensures { λ r. ⌜ Gives (startOn (now (a .entry))) (returned r []) (now (a .exit)) ⌝ }
+{
+    tell_finish(arena::start(a))
+}
+
+// Grants a block of at least `n` words.
+#[no_mangle]
+pub extern "C" fn zv_alloc(a: &mut [u32], n: u32, answer: &mut [u32; 2]) -> u32
+    ensures { λ r. ⌜ Gives (allocOn (now (a .entry)) n) (returned r (now (answer .exit))) (now (a .exit)) ⌝ }
+{
+    tell_granted(arena::alloc(a, n), answer)
+}
+
+// Frees block `b`.
+#[no_mangle]
+pub extern "C" fn zv_free(a: &mut [u32], b: u32) -> u32
+    ensures { λ r. ⌜ Gives (freeOn (now (a .entry)) b) (returned r []) (now (a .exit)) ⌝ }
+{
+    tell_finish(arena::free(a, b))
+}
+
+// Makes block `b` one of at least `n` words where it stands.
+#[no_mangle]
+pub extern "C" fn zv_resize(a: &mut [u32], b: u32, n: u32, answer: &mut [u32; 2]) -> u32
+    ensures { λ r. ⌜ Gives (resizeOn (now (a .entry)) b n) (returned r (now (answer .exit))) (now (a .exit)) ⌝ }
+{
+    tell_granted(arena::resize(a, b, n), answer)
+}
+
+// Moves block `b` to a new block of at least `n` words.
+#[no_mangle]
+pub extern "C" fn zv_relocate(a: &mut [u32], b: u32, n: u32, answer: &mut [u32; 2]) -> u32
+    ensures { λ r. ⌜ Gives (relocateOn (now (a .entry)) b n) (returned r (now (answer .exit))) (now (a .exit)) ⌝ }
+{
+    tell_granted(arena::relocate(a, b, n), answer)
+}
+
+// Makes block `b` one of at least `n` words, where it stands or elsewhere.
+#[no_mangle]
+pub extern "C" fn zv_realloc(a: &mut [u32], b: u32, n: u32, answer: &mut [u32; 2]) -> u32
+    ensures { λ r. ⌜ Gives (reallocOn (now (a .entry)) b n) (returned r (now (answer .exit))) (now (a .exit)) ⌝ }
+{
+    tell_granted(arena::realloc(a, b, n), answer)
+}
+
+// The granted words of block `b`.
+#[no_mangle]
+pub extern "C" fn zv_size(a: &[u32], b: u32, answer: &mut [u32; 1]) -> u32
+    ensures { λ r. ⌜ Gives (sizeOn (now (a .entry)) b) (returned r (now (answer .exit))) (now (a .entry)) ⌝ }
+{
+    tell_sized(arena::size(a, b), answer)
+}
+
+// The free words, the largest request that would be granted now, the live blocks and the free chunks.
+#[no_mangle]
+pub extern "C" fn zv_report(a: &[u32], answer: &mut [u32; 4]) -> u32
+    ensures { λ r. ⌜ Gives (reportOn (now (a .entry))) (returned r (now (answer .exit))) (now (a .entry)) ⌝ }
+{
+    tell_reported(arena::report(a), answer)
+}
+
+// What start and free tell: the code alone.
+fn tell_finish(finish: Finish) -> u32
+    ensures { λ r. ⌜ returned r [] ≡ finishNumbers finish ⌝ }
+{
+    answers::finish_numbers(finish).code
+}
+
+// A block and its granted words go into the lent array; the code is handed back.
+fn tell_granted(granted: Granted, answer: &mut [u32; 2]) -> u32
+    ensures { λ r. ⌜ returned r (now (answer .exit)) ≡ grantedNumbers granted ⌝ }
+{
+    let numbers = answers::granted_numbers(granted);
+    let fields = numbers.fields;
+    let block = fields[0];
+    let words = fields[1];
+    *answer = [block, words];
+    numbers.code
+}
+
+// The granted words of a block go into the lent array.
+fn tell_sized(sized: Sized, answer: &mut [u32; 1]) -> u32
+    ensures { λ r. ⌜ returned r (now (answer .exit)) ≡ sizedNumbers sized ⌝ }
+{
+    let numbers = answers::sized_numbers(sized);
+    let fields = numbers.fields;
+    let words = fields[0];
+    *answer = [words];
+    numbers.code
+}
+
+// The four numbers of a report go into the lent array.
+fn tell_reported(reported: Reported, answer: &mut [u32; 4]) -> u32
+    ensures { λ r. ⌜ returned r (now (answer .exit)) ≡ reportedNumbers reported ⌝ }
+{
+    let numbers = answers::reported_numbers(reported);
+    let fields = numbers.fields;
+    *answer = fields;
+    numbers.code
+}

@@ -1,0 +1,182 @@
+/*
+ * The calls for C on any arena, for the tests: it speaks as the program cases does (cases.py says how). Its words are
+ * the machine's own, on x86-64 the low byte first. It ends where a case is cut short or too long.
+ *
+ * Around each arena and each answer lie guard words. Where a call changes one, the program says so and ends with
+ * status 1. With -DGUARD_WORDS=0 there are none, so that a checker such as valgrind sees a step outside.
+ */
+#include <stdbool.h>
+#include <stdio.h>
+#include <stdlib.h>
+#include <string.h>
+
+#include "zandervlecht.h"
+
+#ifndef GUARD_WORDS
+#define GUARD_WORDS 16
+#endif
+
+/* What is done wrong on purpose, for the tests to see, with such as -DFAULT=SWAPPED_FIELDS. */
+enum fault { NONE, SWAPPED_FIELDS, FIELD_OF_REFUSAL, BEFORE_ANSWER, BEHIND_ANSWER, BEFORE_ARENA, BEHIND_ARENA };
+#ifndef FAULT
+#define FAULT NONE
+#endif
+
+enum call { START = 1, ALLOC, FREE, REALLOC, REPORT, SIZE, VIEW, VIEW_MUT, RESIZE, RELOCATE };
+enum { FIELDS = 4, LONGEST_CASE = 16400 };
+
+/* The words before an arena in a case. */
+struct question {
+    uint32_t call, b, n, words;
+};
+
+/* The words before the part and the arena in a reply. */
+struct reply {
+    uint32_t code, fields[FIELDS], part_words;
+};
+
+static const size_t guard_words = GUARD_WORDS;
+
+/* Ends the program with a complaint. */
+static void give_up(const char *complaint, const char *what)
+{
+    fprintf(stderr, "c_cases: %s%s\n", complaint, what);
+    exit(EXIT_FAILURE);
+}
+
+/* The word that lies so many words from the beginning of fresh room. */
+static uint32_t fresh_word(size_t at)
+{
+    return (uint32_t)(0xA5A50000 + at);
+}
+
+/* Fresh room for so many words, with guard words before and behind them. */
+static uint32_t *fresh_room(size_t words)
+{
+    size_t all = guard_words + words + guard_words;
+    uint32_t *room = malloc((all > 0 ? all : 1) * sizeof *room);
+    if (room == NULL)
+        give_up("there is no memory for ", "a case");
+    for (size_t at = 0; at < all; at++)
+        room[at] = fresh_word(at);
+    return room + guard_words;
+}
+
+/* Looks at the guard words around these words, and gives the room back. */
+static void end_room(const char *what, uint32_t *words, size_t count)
+{
+    uint32_t *room = words - guard_words;
+    for (size_t at = 0; at < guard_words; at++) {
+        size_t behind = guard_words + count + at;
+        if (room[at] != fresh_word(at))
+            give_up("a call changed a word before ", what);
+        if (room[behind] != fresh_word(behind))
+            give_up("a call changed a word behind ", what);
+    }
+    free(room);
+}
+
+/* How many fields the header says that the answer of a call has; a view asks for the size. */
+static size_t field_count(uint32_t call)
+{
+    switch (call) {
+    case ALLOC: case RESIZE: case RELOCATE: case REALLOC: return 2;
+    case SIZE: case VIEW: case VIEW_MUT: return 1;
+    case REPORT: return 4;
+    default: return 0;
+    }
+}
+
+/* Makes a call and gives its code. */
+static uint32_t made(const struct question *asked, uint32_t *arena, uint32_t *answer)
+{
+    size_t words = asked->words;
+    switch (asked->call) {
+    case START: return zv_start(arena, words);
+    case ALLOC: return zv_alloc(arena, words, asked->n, answer);
+    case FREE: return zv_free(arena, words, asked->b);
+    case REALLOC: return zv_realloc(arena, words, asked->b, asked->n, answer);
+    case REPORT: return zv_report(arena, words, answer);
+    case SIZE: case VIEW: case VIEW_MUT: return zv_size(arena, words, asked->b, answer);
+    case RESIZE: return zv_resize(arena, words, asked->b, asked->n, answer);
+    case RELOCATE: return zv_relocate(arena, words, asked->b, asked->n, answer);
+    default: return ZV_FRAME;
+    }
+}
+
+/* Makes a call and, where a fault is asked for, does wrong what a call could. */
+static uint32_t made_with_fault(const struct question *asked, uint32_t *arena, uint32_t *answer)
+{
+    uint32_t code = made(asked, arena, answer);
+    size_t count = field_count(asked->call);
+    uint32_t first = count > 0 ? answer[0] : 0;
+    if (FAULT == SWAPPED_FIELDS && count == 2) {
+        answer[0] = answer[1];
+        answer[1] = first;
+    }
+    if (FAULT == FIELD_OF_REFUSAL && count > 0 && code != ZV_DONE)
+        answer[count - 1] = 4;
+    if (FAULT == BEFORE_ANSWER && count > 0)
+        *(answer - 1) = 0;
+    if (FAULT == BEHIND_ANSWER && count > 0)
+        answer[count] = 0;
+    if (FAULT == BEFORE_ARENA)
+        *(arena - 1) = 0;
+    if (FAULT == BEHIND_ARENA)
+        arena[asked->words] = 0;
+    return code;
+}
+
+/* What a question is replied. A view is always done: where the size is refused, its part is empty. */
+static struct reply reply_to(const struct question *asked, uint32_t *arena)
+{
+    struct reply told = {0};
+    size_t count = field_count(asked->call);
+    uint32_t *fields = fresh_room(count);
+    uint32_t code = made_with_fault(asked, arena, fields);
+    if (asked->call == VIEW || asked->call == VIEW_MUT) {
+        told.part_words = code == ZV_DONE ? fields[0] : 0;
+    } else {
+        told.code = code;
+        memcpy(told.fields, fields, count * sizeof *fields);
+    }
+    end_room("the answer", fields, count);
+    return told;
+}
+
+/* Writes so many words. */
+static void write_words(const void *words, size_t count)
+{
+    if (fwrite(words, sizeof(uint32_t), count, stdout) != count)
+        give_up("a reply cannot be written", "");
+}
+
+/* Runs one case; false where no whole case is there. */
+static bool run_case(void)
+{
+    struct question asked;
+    if (fread(&asked, sizeof asked, 1, stdin) != 1 || asked.words > LONGEST_CASE)
+        return false;
+    uint32_t *arena = fresh_room(asked.words);
+    bool whole = fread(arena, sizeof *arena, asked.words, stdin) == asked.words;
+    if (whole) {
+        struct reply told = reply_to(&asked, arena);
+        uint32_t *part = told.part_words > 0 ? arena + asked.b : arena;
+        write_words(&told, sizeof told / sizeof(uint32_t));
+        write_words(part, told.part_words);
+        for (size_t at = 0; asked.call == VIEW_MUT && at < told.part_words; at++)
+            part[at] = asked.n;
+        write_words(arena, asked.words);
+    }
+    end_room("the arena", arena, asked.words);
+    return whole;
+}
+
+int main(void)
+{
+    while (run_case())
+        continue;
+    if (fflush(stdout) != 0)
+        give_up("the replies cannot be written", "");
+    return EXIT_SUCCESS;
+}

@@ -1,0 +1,81 @@
+"""What spoils the header of the calls for C, or what it has to agree with: the sources and the library."""
+
+from .c_header import HEADER
+from .c_programs import LIBRARY
+from .spoiling import edited, edited_bytes, replaced
+
+DRIVER = "test_header"
+
+CALLS = "crates/zandervlecht/src/lib.rt"
+LAYOUT = "crates/layout/src/lib.rt"
+ANSWERS = "crates/answers/src/lib.rt"
+
+
+def header(old, new):
+    """The header has other words in one place."""
+    return replaced(HEADER, old, new)
+
+
+def swapped(one, other):
+    """Two words of the header have changed places."""
+    def edit(text):
+        return text.replace(one, "\0").replace(other, one).replace("\0", other)
+
+    return lambda root: edited(root, HEADER, edit)
+
+
+def unlinkable(root):
+    """No language is told that the functions are those of C."""
+    edited(root, HEADER, lambda text: text.replace("__cplusplus", "NO_LANGUAGE"))
+
+
+def renamed_symbol(root):
+    """The library has another function than the code exports."""
+    edited_bytes(root, LIBRARY, lambda content: content.replace(b"zv_relocate\0", b"zv_relocete\0"))
+
+
+# What spoils a copy, and what the driver then has to tell.
+SPOILED = [
+    (swapped("ZV_ZERO", "ZV_TOO_LARGE"), "the header lacks: enum zv_code: ZV_ZERO = 4"),
+    (header("    ZV_FRAME = 7,\n", ""), "the header lacks: enum zv_code: ZV_FRAME = 7"),
+    (header("ZV_WOULD_MOVE = 8", "ZV_WOULD_MOVE = 8, ZV_BUSY = 9"), "the sources have not: enum zv_code: ZV_BUSY = 9"),
+    (header("ZV_WOULD_MOVE = 8", "ZV_WOULD_MOVE"), "the sources have not: enum zv_code: ZV_WOULD_MOVE"),
+    (swapped("ZV_BLOCK", "ZV_GRANTED"), "the header lacks: enum zv_granted: ZV_BLOCK = 0"),
+    (swapped("ZV_LARGEST", "ZV_LIVE_BLOCKS"), "the header lacks: enum zv_reported: ZV_LIVE_BLOCKS = 2"),
+    (header("LEAST_WORDS 6", "LEAST_WORDS 8"), "the header lacks: #define ZV_LEAST_WORDS 6"),
+    (header("WORDS 16384", "WORDS 16386"), "the header lacks: #define ZV_GREATEST_WORDS 16384"),
+    (header("#define ZV_LEAST", "#define ZV_MOST 9\n#define ZV_LEAST"), "the sources have not: #define ZV_MOST 9"),
+    (header("uint32_t zv_free(uint32_t *arena, size_t words, uint32_t b);", ""), "the header lacks: uint32_t zv_free("),
+    (header("/* Frees", "int zv_check(void);\n/* Frees"), "the sources have not: int zv_check(void)"),
+    (header("/* Frees", "uint32_t zv_start(uint32_t *arena, size_t words);\n/* Frees"), "more than once"),
+    (header("answer[4]", "answer[3]"), "the sources have not: uint32_t zv_report("),
+    (header("words, uint32_t b, uint32_t n", "words, uint32_t n, uint32_t b"), "the header lacks: uint32_t zv_resize("),
+    (header("zv_size(const ", "zv_size("), "the header lacks: uint32_t zv_size("),
+    (header("*arena, size_t words)", "*arena, int words)"), "the header lacks: uint32_t zv_start("),
+    (header("uint32_t zv_free", "void zv_free"), "the header lacks: uint32_t zv_free("),
+    (swapped("zv_resize(", "zv_realloc("), "in another order"),
+    (header("The call was done.", "The call was done. Go on."), "before ZV_DONE stands no comment"),
+    (header("    /* The request is for no words. */\n", ""), "before ZV_ZERO stands no comment"),
+    (header("/* Frees block b. */\n", ""), "before zv_free stands no comment"),
+    (header("zv_relocate and zv_realloc. */", "zv_relocate. */"), "the comment before zv_granted does not name"),
+    (header("ZV_DONE or ZV_LENGTH", "ZV_DONE or ZV_LONG"), "a comment names ZV_LONG"),
+    (header("docs/BOARD.md", "docs/BOARDS.md"), "a comment names docs/BOARDS.md"),
+    (header("below ZV_LEAST_WORDS", "below 6"), "a comment has the number 6"),
+    (replaced(LAYOUT, "Reason::Zero => 4", "Reason::Zero => 9"), "the header lacks: enum zv_code: ZV_ZERO = 9"),
+    (replaced(LAYOUT, "    WouldMove,\n", "    WouldMove,\n    Busy,\n"), "the header lacks: enum zv_code: ZV_BUSY"),
+    (replaced(LAYOUT, "usize = 16384", "usize = 32768"), "the header lacks: #define ZV_GREATEST_WORDS 32768"),
+    (replaced(ANSWERS, "largest: u32", "longest: u32"), "the header lacks: enum zv_reported: ZV_LONGEST = 1"),
+    (replaced(CALLS, "fn zv_free", "fn zv_release"), "the header lacks: uint32_t zv_release("),
+    (replaced(CALLS, "zv_free(a: &mut [u32]", "zv_free(a: &[u32]"), "zv_free(const uint32_t *arena"),
+    (replaced(CALLS, "#[no_mangle]\n", "#[no_mangle]\n#[inline]\n"), "times, and 7 functions were read there"),
+]
+
+# The same, of what a compiler for one of the languages, and the library that it links, have to show.
+COMPILED = {
+    "c99": [
+        (header("#include <stddef.h>\n", ""), "the program alone_c99 cannot be built"),
+        (header("#define ZANDERVLECHT_H\n", ""), "the program alone_c99 cannot be built"),
+        (renamed_symbol, "the static library has"),
+    ],
+    "c++11": [(unlinkable, "the program alone_c++11 cannot be built")],
+}
