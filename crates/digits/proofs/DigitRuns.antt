@@ -45,7 +45,7 @@ number-below n m (b ∷ bs) digits l =
     let (first, rest) = and-eq-true-iff (isDigit b) (allDigits bs) .0 digits in
     number-below (n * 16 + worth b) (m * 16) bs rest (omega (arith, ltb-true (worth b) 16 first))
 
-number-append : (n : ℕ) (xs ys : List ℕ) → numberFrom n (xs ++ ys) ≡ numberFrom (numberFrom n xs) ys
+pub number-append : (n : ℕ) (xs ys : List ℕ) → numberFrom n (xs ++ ys) ≡ numberFrom (numberFrom n xs) ys
 number-append n [] ys = refl
 number-append n (b ∷ xs) ys = number-append (n * 16 + worth b) xs ys
 

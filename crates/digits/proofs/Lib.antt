@@ -1,5 +1,6 @@
 -- The laws of digits, and of bytes put into a text.
 pub mod Ranges
-pub mod Reading
 pub mod DigitRuns
+pub mod Reading
+pub mod Capitals
 pub mod Putting

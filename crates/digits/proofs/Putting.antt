@@ -1,10 +1,12 @@
--- Bytes put into a text one after the other.
-use Prim.Native.Nat.{ℕ, suc, _+_}
-use mathlib.Core.Path.{_≡_, sym, ap, _∙_}
-use mathlib.Core.List.{List, [], _∷_, _++_}
+-- Bytes put into a text one after the other; numbers put so, each in its digits.
+use Prim.Native.Nat.{ℕ, suc, _+_, _*_, _<_}
+use mathlib.Core.Path.{_≡_, refl, sym, ap, _∙_}
+use mathlib.Core.List.{List, [], _∷_, _++_, append-assoc, append-nil}
 use native.Mathlib.Omega.{arith}
-use lib.ListN.{length, set, length-append}
-use lib.Seq.{sets, length-sets}
+use native.Mathlib.Nat.{suc-mul}
+use lib.ListN.{length, getD, take, set, length-append}
+use lib.Seq.{sets, length-sets, length-take-le, take-suc}
+use Rattle.digits.specs.Digits.{inDigits}
 use Rattle.digits.specs.Putting.{Puts}
 
 -- two bytes, one after the other
@@ -28,3 +30,30 @@ puts-then at mid end xs ys room text after p q =
 -- a text stays as long as it was
 pub put-length : {at end : ℕ} {bs room text : List ℕ} → Puts at bs room end text → length text ≡ length room
 put-length {at} {end} {bs} {room} p = ap length (p .says) ∙ length-sets room at bs
+
+-- ---- numbers in digits, so many bytes each
+
+module _ (digits : ℕ → List ℕ) (width : ℕ) (each : (v : ℕ) → length (digits v) ≡ width) where
+  pub in-length : (vs : List ℕ) → length (inDigits digits vs) ≡ length vs * width
+  in-length [] = omega arith
+  in-length (v ∷ vs) =
+      length-append (digits v) (inDigits digits vs) ∙ omega (arith, each v, in-length vs, suc-mul (length vs) width)
+
+  in-append : (vs ws : List ℕ) → inDigits digits (vs ++ ws) ≡ inDigits digits vs ++ inDigits digits ws
+  in-append [] ws = refl
+  in-append (v ∷ vs) ws = ap (λ (bs : List ℕ). digits v ++ bs) (in-append vs ws) ∙ sym (append-assoc (digits v) (inDigits digits vs) (inDigits digits ws))
+
+  -- one more number is put behind those before it
+  pub in-on : (values room : List ℕ) (at i : ℕ) → i < length values
+      → sets (sets room at (inDigits digits (take i values))) (at + i * width) (digits (getD values i 0))
+      ≡ sets room at (inDigits digits (take (i + 1) values))
+  in-on values room at i less =
+      let front = take i values in
+      let n : length (inDigits digits front) ≡ i * width
+      = in-length front ∙ ap (λ (k : ℕ). k * width) (length-take-le i values (omega arith)) in
+      let e : i + 1 ≡ suc i = omega arith in
+      let one : digits (getD values i 0) ≡ inDigits digits (getD values i 0 ∷ []) = sym (append-nil (digits (getD values i 0))) in
+      sym (sets-append (inDigits digits front) (digits (getD values i 0)) room at (at + i * width) (omega (arith, n)))
+      ∙ ap (λ (bs : List ℕ). sets room at (inDigits digits front ++ bs)) one
+      ∙ ap (sets room at) (sym (in-append front (getD values i 0 ∷ [])))
+      ∙ ap (λ (vs : List ℕ). sets room at (inDigits digits vs)) (sym (take-suc values i 0 less) ∙ ap (λ (k : ℕ). take k values) (sym e))

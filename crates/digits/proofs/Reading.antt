@@ -1,15 +1,16 @@
 -- Numbers that are written as digits can be read back.
-use Prim.Native.Nat.{ℕ, _+_, _-_, _/_, _%_, _≤_, _<_}
-use mathlib.Core.Path.{_≡_, refl, _∙_}
+use Prim.Native.Nat.{ℕ, _+_, _-_, _*_, _/_, _%_, _≤_, _<_}
+use mathlib.Core.Path.{_≡_, refl, ap, _∙_}
 use mathlib.Core.Logic.{_⊎_, inl, inr}
 use mathlib.Core.Bool.{Bool, true, false, cond, and-false}
 use native.Mathlib.Omega.{arith}
 use lib.Dec.{leb, ltb}
 use borrow.Author.Tests.{ltb-true, ltb-false, le-leb, lt-leb}
-use Rattle.digits.specs.Digits.{between, worth, numberOf, glyph, twoDigits, fourDigits, fourDigitValues, twoDigitValues}
+use Rattle.digits.specs.Digits.{between, worth, numberFrom, numberOf, glyph, twoDigits, fourDigits, eightDigits, fourDigitValues, twoDigitValues}
 use Rattle.digits.proofs.Ranges.{worth-known}
+use Rattle.digits.proofs.DigitRuns.{number-append}
 
-inside : (first last b : ℕ) → first ≤ b → b ≤ last → between first last b ≡ true
+pub inside : (first last b : ℕ) → first ≤ b → b ≤ last → between first last b ≡ true
 inside first last b least most = rw (le-leb first b least, le-leb b last most)
 
 -- the byte of a digit is one of 0 to 9, or one of A to F
@@ -39,12 +40,25 @@ worth-glyph d l = go (ltb d 10) refl
         let letter : between 65 70 b ≡ true = inside 65 70 b (omega arith) (omega arith) in
         worth-known b false true _ no-figure letter refl ∙ omega arith
 
--- two digits tell a number below 256
-pub two-read : (v : ℕ) → v < twoDigitValues → numberOf (twoDigits v) ≡ v
-two-read v fits = rw (worth-glyph (v / 16 % 16) (omega arith), worth-glyph (v % 16) (omega arith)) (omega arith)
+-- ---- a number's last digits, behind those that made `n`
 
--- four digits tell a field
+two-behind : (n v : ℕ) → numberFrom n (twoDigits v) ≡ n * 256 + v % 256
+two-behind n v = rw (worth-glyph (v / 16 % 16) (omega arith), worth-glyph (v % 16) (omega arith)) (omega arith)
+
+four-behind : (n v : ℕ) → numberFrom n (fourDigits v) ≡ n * 65536 + v % 65536
+four-behind n v =
+    number-append n (twoDigits (v / 256)) (twoDigits v) ∙ two-behind (numberFrom n (twoDigits (v / 256))) v
+    ∙ ap (λ (k : ℕ). k * 256 + v % 256) (two-behind n (v / 256)) ∙ omega arith
+
+-- two digits tell a number below 256, four a field, eight a word
+
+pub two-read : (v : ℕ) → v < twoDigitValues → numberOf (twoDigits v) ≡ v
+two-read v fits = two-behind 0 v ∙ omega arith
+
 pub four-read : (v : ℕ) → v < fourDigitValues → numberOf (fourDigits v) ≡ v
-four-read v fits =
-    rw (worth-glyph (v / 256 / 16 % 16) (omega arith), worth-glyph (v / 256 % 16) (omega arith))
-    (rw (worth-glyph (v / 16 % 16) (omega arith), worth-glyph (v % 16) (omega arith)) (omega arith))
+four-read v fits = four-behind 0 v ∙ omega arith
+
+pub eight-read : (v : ℕ) → v < fourDigitValues * fourDigitValues → numberOf (eightDigits v) ≡ v
+eight-read v fits =
+    number-append 0 (fourDigits (v / 65536)) (fourDigits v) ∙ four-behind (numberOf (fourDigits (v / 65536))) v
+    ∙ ap (λ (k : ℕ). k * 65536 + v % 65536) (four-behind 0 (v / 65536)) ∙ omega arith

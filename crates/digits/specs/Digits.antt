@@ -32,6 +32,10 @@ numberFrom sum (b ∷ bs) = numberFrom (sum * 16 + worth b) bs
 abbrev pub numberOf : List ℕ → ℕ
 numberOf bs = numberFrom 0 bs
 
+-- a letter a to f as the capital A to F, any other byte as it is
+unfoldable pub upper : ℕ → ℕ
+upper b = cond (between 97 102 b) (b - 32) b
+
 -- the byte of a digit: 0 to 9, or A to F
 unfoldable pub glyph : ℕ → ℕ
 glyph d = cond (ltb d 10) (48 + d) (65 + (d - 10))
@@ -43,9 +47,17 @@ twoDigitValues = 256
 abbrev pub fourDigitValues : ℕ
 fourDigitValues = 65536
 
--- a number's last two digits, and its last four
+-- a number's last two digits, its last four, and its last eight
 abbrev pub twoDigits : ℕ → List ℕ
 twoDigits v = glyph (v / 16 % 16) ∷ glyph (v % 16) ∷ []
 
 abbrev pub fourDigits : ℕ → List ℕ
 fourDigits v = twoDigits (v / twoDigitValues) ++ twoDigits v
+
+abbrev pub eightDigits : ℕ → List ℕ
+eightDigits v = fourDigits (v / fourDigitValues) ++ fourDigits v
+
+-- numbers one after the other, each in its digits
+abbrev pub inDigits : (ℕ → List ℕ) → List ℕ → List ℕ
+inDigits digits [] = []
+inDigits digits (v ∷ vs) = digits v ++ inDigits digits vs

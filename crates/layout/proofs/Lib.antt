@@ -1,6 +1,5 @@
 -- The laws of the layout, which the proofs of this crate and of those above it cite.
 pub mod Bools
-pub mod Bounds
 pub mod Walking
 pub mod Holds
 pub mod Linked

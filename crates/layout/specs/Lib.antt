@@ -1,4 +1,5 @@
 pub mod Numbers
+pub mod Bounds
 pub mod Chunks
 pub mod Walk
 pub mod Reasons

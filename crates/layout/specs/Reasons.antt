@@ -7,7 +7,7 @@ use lib.Dec.{leb, eqb}
 use Rattle.layout.specs.Numbers.{lawful, greatestRequest}
 use Rattle.layout.specs.Walk.{sound}
 use Rattle.layout.specs.declared.Reason.{Reason}
-use Rattle.layout.specs.declared.Reason.the-variants.{Length, Damaged, NotABlock, Zero, TooLarge, NoRoom, Frame, WouldMove}
+use Rattle.layout.specs.declared.Reason.the-variants.{Length, Damaged, NotABlock, Zero, TooLarge, NoRoom, Frame, WouldMove, TextRoom}
 use Rattle.layout.specs.declared.Gate.{Gate}
 use Rattle.layout.specs.declared.Gate.the-variants.{Open, Shut}
 
@@ -20,6 +20,7 @@ number TooLarge = 5
 number NoRoom = 6
 number Frame = 7
 number WouldMove = 8
+number TextRoom = 11
 
 -- Length, or else Damaged, for the lent words
 unfoldable pub arenaGate : List ℕ → Gate

@@ -36,6 +36,7 @@ pub enum Reason {
     NoRoom,
     Frame,
     WouldMove,
+    TextRoom,
 }
 
 // Whether a call may go on.
@@ -57,6 +58,7 @@ pub fn number(why: Reason) -> u32
         Reason::NoRoom => 6,
         Reason::Frame => 7,
         Reason::WouldMove => 8,
+        Reason::TextRoom => 11,
     }
 }
 

@@ -10,8 +10,8 @@ use Rattle.layout.specs.Chunks.{Chunk, free, live, total}
 use Rattle.layout.specs.Walk.{sound, chunksOf}
 use Rattle.layout.specs.Reasons.{number}
 use Rattle.layout.specs.declared.Reason.{Reason}
-use Rattle.layout.specs.declared.Reason.the-variants.{Length, Damaged, NotABlock, Zero, TooLarge, NoRoom, Frame, WouldMove}
-use Rattle.layout.proofs.Bounds.{AllBelow}
+use Rattle.layout.specs.declared.Reason.the-variants.{Length, Damaged, NotABlock, Zero, TooLarge, NoRoom, Frame, WouldMove, TextRoom}
+use Rattle.layout.specs.Bounds.{AllBelow}
 use Rattle.layout.proofs.Holds.{total-append}
 use Rattle.layout.proofs.Round.{sound-chunks}
 use Rattle.rules.specs.Answers.{Outcome}
@@ -37,6 +37,7 @@ number-small TooLarge = omega arith
 number-small NoRoom = omega arith
 number-small Frame = omega arith
 number-small WouldMove = omega arith
+number-small TextRoom = omega arith
 
 -- the code of a call's answer fits two digits
 pub code-below : {fields : ℕ} {a : List ℕ} {Refuses : Reason → Type 0} {Does : List ℕ → List ℕ → Type 0} {outcome : Outcome}

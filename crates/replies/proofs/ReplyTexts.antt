@@ -1,14 +1,14 @@
 -- The text of a reply, put part by part.
-use Prim.Native.Nat.{ℕ, suc, _+_, _*_, _<_}
-use mathlib.Core.Path.{_≡_, refl, sym, ap, _∙_}
+use Prim.Native.Nat.{ℕ, _+_, _*_, _<_}
+use mathlib.Core.Path.{_≡_, refl}
 use mathlib.Core.List.{List, [], _∷_, _++_}
 use native.Mathlib.Omega.{arith}
 use lib.ListN.{length, getD, take, set}
-use lib.Seq.{sets, length-take-le, take-suc}
+use lib.Seq.{sets}
 use Rattle.rules.specs.Answers.{Answer}
 use Rattle.digits.specs.Digits.{lineEnd, twoDigits, fourDigits}
 use Rattle.digits.specs.Putting.{Puts}
-use Rattle.digits.proofs.Putting.{sets-append, puts-then}
+use Rattle.digits.proofs.Putting.{puts-then, in-length, in-on}
 use Rattle.replies.specs.Boards.{fieldsText, replyText}
 
 -- a code and fields as an answer
@@ -18,25 +18,13 @@ numbers code values = record { code = code; values = values }
 -- ---- its fields
 
 pub fields-length : (vs : List ℕ) → length (fieldsText vs) ≡ length vs * 4
-fields-length [] = refl
-fields-length (v ∷ vs) = ap (λ (n : ℕ). suc (suc (suc (suc n)))) (fields-length vs) ∙ omega arith
-
-fields-append : (vs ws : List ℕ) → fieldsText (vs ++ ws) ≡ fieldsText vs ++ fieldsText ws
-fields-append [] ws = refl
-fields-append (v ∷ vs) ws = ap (λ (bs : List ℕ). fourDigits v ++ bs) (fields-append vs ws)
+fields-length = in-length fourDigits 4 (λ v. refl)
 
 -- one more field is put behind those before it
 pub fields-on : (values room : List ℕ) (at i : ℕ) → i < length values
     → sets (sets room at (fieldsText (take i values))) (at + i * 4) (fourDigits (getD values i 0))
     ≡ sets room at (fieldsText (take (i + 1) values))
-fields-on values room at i less =
-    let front = take i values in
-    let n : length (fieldsText front) ≡ i * 4
-    = fields-length front ∙ ap (λ (k : ℕ). k * 4) (length-take-le i values (omega arith)) in
-    let e : i + 1 ≡ suc i = omega arith in
-    sym (sets-append (fieldsText front) (fourDigits (getD values i 0)) room at (at + i * 4) (omega (arith, n)))
-    ∙ ap (sets room at) (sym (fields-append front (getD values i 0 ∷ [])))
-    ∙ ap (λ (vs : List ℕ). sets room at (fieldsText vs)) (sym (take-suc values i 0 less) ∙ ap (λ (k : ℕ). take k values) (sym e))
+fields-on = in-on fourDigits 4 (λ v. refl)
 
 -- ---- all of it
 

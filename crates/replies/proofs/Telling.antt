@@ -4,7 +4,7 @@ use mathlib.Core.Path.{_≡_, refl}
 use mathlib.Core.List.{List, [], _∷_, _++_}
 use native.Mathlib.Omega.{arith}
 use lib.ListN.{length, getD, take, drop}
-use Rattle.layout.proofs.Bounds.{AllBelow}
+use Rattle.layout.specs.Bounds.{AllBelow}
 use Rattle.rules.specs.Answers.{Answer}
 use Rattle.rules.proofs.CallCases.{start-case, alloc-case, free-case, report-case}
 use Rattle.rules.proofs.RegrantCases.{realloc-case}

@@ -7,7 +7,7 @@ use lib.Dec.{leb, eqb}
 use Rattle.layout.specs.declared.Reason.the-variants.{Frame}
 use Rattle.rules.specs.Answers.{Answer, refusal, Outcome}
 use Rattle.rules.specs.Calls.{startOn, allocOn, freeOn, reallocOn, reportOn}
-use Rattle.digits.specs.Digits.{lineEnd, twoDigits, fourDigits}
+use Rattle.digits.specs.Digits.{lineEnd, twoDigits, fourDigits, inDigits}
 use Rattle.requests.specs.Requests.{kindOf}
 use Rattle.requests.specs.declared.Request.{Request}
 use Rattle.requests.specs.declared.Request.the-variants.{Start, Alloc, Free, Realloc, Report, Malformed}
@@ -23,8 +23,7 @@ lending words lent = record { words = words; lent = lent }
 -- ---- a reply's text
 
 abbrev pub fieldsText : List ℕ → List ℕ
-fieldsText [] = []
-fieldsText (v ∷ vs) = fourDigits v ++ fieldsText vs
+fieldsText vs = inDigits fourDigits vs
 
 -- two digits of request, two of code, the fields in four digits each, and the line's end
 unfoldable pub replyText : ℕ → Answer → List ℕ

@@ -5,8 +5,9 @@ use Prim.Native.Nat.{ℕ}
 use Rattle.layout.specs.Reasons.{number}
 use Rattle.layout.specs.declared.Reason.{Reason}
 use Rattle.rules.specs.Answers.{Outcome}
-use Rattle.rules.specs.Calls.{startOn, allocOn, freeOn, resizeOn, relocateOn, reallocOn, sizeOn, reportOn}
+use Rattle.rules.specs.Calls.{startOn, allocOn, freeOn, resizeOn, relocateOn, reallocOn, sizeOn, reportOn, writeOn, readOn}
 use Rattle.rules.specs.Causes.{StartRefused, AllocRefused, BlockRefused, ResizeRefused, RelocateRefused, ReallocRefused, ReportRefused}
+use Rattle.rules.specs.Causes.{WriteRefused, ReadRefused}
 use Rattle.rules.specs.Behaves.{Behaves}
 use Rattle.rules.proofs.CallCases.{Case, refuses, does, refused-unchanged, refused-zeros, start-case, alloc-case, free-case, size-case}
 use Rattle.rules.proofs.CallCases.{report-case}
@@ -15,6 +16,7 @@ use Rattle.rules.proofs.Given.{refused-for, done-unless, start-gives, a
 use Rattle.rules.proofs.Given.{size-gives, report-gives}
 use Rattle.rules.proofs.Keeping.{Kept, kept, same-kept, starts-kept, allots-kept, frees-kept, resizes-kept, relocates-kept, regrants-kept}
 use Rattle.rules.proofs.Keeping.{measures-same, reports-same}
+use Rattle.rules.proofs.PictureCalls.{write-case, write-gives, writes-same, read-case, read-gives, reads-kept}
 
 -- a call behaves where it gives each reason that is so, and what it does keeps the arena
 behaves : {fields : ℕ} {a : List ℕ} {Refuses : Reason → Type 0} {Does : List ℕ → List ℕ → Type 0} {outcome : Outcome}
@@ -57,7 +59,14 @@ module _ (a : List ℕ) where
   pub report-behaves : Behaves 4 a (ReportRefused a) (reportOn a)
   report-behaves = behaves (report-case a) (report-gives a) (λ values after d. same-kept a (reports-same a values after d))
 
-  -- size and report change nothing, refused or not
+  pub write-behaves : (text : List ℕ) → Behaves 1 a (WriteRefused a text) (writeOn a text)
+  write-behaves text =
+      behaves (write-case a text) (write-gives a text) (λ values after d. same-kept a (writes-same a text values after d))
+
+  pub read-behaves : (text : List ℕ) → Behaves 0 a (ReadRefused text a) (readOn text a)
+  read-behaves text = behaves (read-case text a) (read-gives text a) (reads-kept text a)
+
+  -- size, report and write change nothing, refused or not
 
   unchanging : {fields : ℕ} {Refuses : Reason → Type 0} {Does : List ℕ → List ℕ → Type 0} {outcome : Outcome} → Case fields a Refuses Does outcome
       → ((values after : List ℕ) → Does values after → after ≡ a) → outcome .words ≡ a
@@ -69,3 +78,6 @@ module _ (a : List ℕ) where
 
   pub report-unchanged : reportOn a .words ≡ a
   report-unchanged = unchanging (report-case a) (reports-same a)
+
+  pub write-unchanged : (text : List ℕ) → writeOn a text .words ≡ a
+  write-unchanged text = unchanging (write-case a text) (writes-same a text)

@@ -11,7 +11,7 @@ use Rattle.layout.specs.Chunks.{Chunk, written}
 use Rattle.layout.specs.Walk.{sound, chunksOf}
 use Rattle.layout.specs.Reasons.{number, arenaGate}
 use Rattle.layout.specs.declared.Reason.{Reason}
-use Rattle.layout.specs.declared.Reason.the-variants.{Length, Damaged, NotABlock, Zero, TooLarge, NoRoom, Frame, WouldMove}
+use Rattle.layout.specs.declared.Reason.the-variants.{Length, Damaged, NotABlock, Zero, TooLarge, NoRoom, Frame, WouldMove, TextRoom}
 use Rattle.layout.proofs.Reasons.{number-positive, number-injective}
 use Rattle.rules.specs.Answers.{Outcome, done, settle, pass}
 use Rattle.rules.specs.Spots.{held}
@@ -60,6 +60,7 @@ module _ (a : List ℕ) (block zero large room stuck : Type 0) where
   only-last e b z m Last no-room would-move NoRoom h = no-room (h .1)
   only-last e b z m Last no-room would-move Frame h = absurd h
   only-last e b z m Last no-room would-move WouldMove h = would-move (h .1)
+  only-last e b z m Last no-room would-move TextRoom h = absurd h
 
 -- ---- the reason that is so is given
 
@@ -78,6 +79,7 @@ module _ (a : List ℕ) where
   report-gives NoRoom (e, h) = absurd h
   report-gives Frame h = absurd h
   report-gives WouldMove (e, h) = absurd h
+  report-gives TextRoom h = absurd h
 
   -- free and size
   block-gives : (b fields : ℕ) (values after : List ℕ) (why : Reason) → BlockRefused a b why
@@ -90,6 +92,7 @@ module _ (a : List ℕ) where
   block-gives b fields values after NoRoom (e, h) = absurd h
   block-gives b fields values after Frame h = absurd h
   block-gives b fields values after WouldMove (e, h) = absurd h
+  block-gives b fields values after TextRoom h = absurd h
 
   pub free-gives : (b : ℕ) (why : Reason) → BlockRefused a b why → freeOn a b .answer .code ≡ number why
   unfolding freeOn
@@ -109,6 +112,7 @@ module _ (a : List ℕ) where
   alloc-gives n NoRoom (e, (r, h)) = rw (sound-gate a e, request-gate a n r, no-gap-fits a (need n) h)
   alloc-gives n Frame h = absurd h
   alloc-gives n WouldMove (e, h) = absurd h
+  alloc-gives n TextRoom h = absurd h
 
   -- a call that grants a block anew: its own are the last two
   regrant-gives : (b n : ℕ) (last : Reason) (rule : Regrant) (room stuck : Type 0) → let code = regrantBy last rule a b n .answer .code in
@@ -125,6 +129,7 @@ module _ (a : List ℕ) where
   regrant-gives b n last rule room stuck no-room would-move NoRoom h = no-room h
   regrant-gives b n last rule room stuck no-room would-move Frame h = absurd h
   regrant-gives b n last rule room stuck no-room would-move WouldMove h = would-move h
+  regrant-gives b n last rule room stuck no-room would-move TextRoom h = absurd h
 
   pub resize-gives : (b n : ℕ) (why : Reason) → ResizeRefused a b n why → resizeOn a b n .answer .code ≡ number why
   unfolding regrantBy

@@ -10,7 +10,7 @@ use Rattle.layout.specs.Numbers.{headerWords, need}
 use Rattle.layout.specs.Chunks.{Chunk, free, live}
 use Rattle.layout.specs.Walk.{sound, chunksOf}
 use Rattle.layout.specs.declared.Reason.{Reason}
-use Rattle.layout.specs.declared.Reason.the-variants.{Length, Damaged, NotABlock, Zero, TooLarge, NoRoom, Frame, WouldMove}
+use Rattle.layout.specs.declared.Reason.the-variants.{Length, Damaged, NotABlock, Zero, TooLarge, NoRoom, Frame, WouldMove, TextRoom}
 use Rattle.layout.proofs.Holds.{Sizes}
 use Rattle.layout.proofs.Round.{sound-lawful, sound-chunks}
 use Rattle.layout.proofs.Reasons.{number-positive}
@@ -73,6 +73,7 @@ module _ (a : List ℕ) (e : sound a ≡ true) where
           )
       none Frame h = h
       none WouldMove (s, h) = h
+      none TextRoom h = h
 
   pub above-largest : (n : ℕ) → largest a < n → allocOn a n .answer .code ≢ 0
   above-largest n large code = go (alloc-case a n) code

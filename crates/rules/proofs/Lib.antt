@@ -15,6 +15,9 @@ pub mod RegrantCases
 pub mod ThreeWays
 pub mod Given
 pub mod Keeping
+pub mod Pictures
+pub mod Saying
+pub mod PictureCalls
 pub mod Calls
 pub mod ReportCounts
 pub mod Largest

@@ -1,20 +1,21 @@
--- The nine calls on an arena's words `a`: what each answers, and what each leaves. Reasons are looked for in the order
+-- The eleven calls on an arena's words `a`: what each answers, and what each leaves. Reasons are looked for in the order
 -- of their numbers.
 use Prim.Native.Nat.{ℕ, _-_}
-use mathlib.Core.List.{List, [], _∷_}
+use mathlib.Core.List.{List, [], _∷_, _++_}
 use mathlib.Core.Bool.{cond}
 use lib.ListN.{length, getD, take, drop}
-use lib.Dec.{eqb}
+use lib.Dec.{leb, eqb}
 use Rattle.layout.specs.Numbers.{controlWords, headerWords, lawful, need}
 use Rattle.layout.specs.Chunks.{free, written}
 use Rattle.layout.specs.Walk.{chunksOf}
 use Rattle.layout.specs.Reasons.{number, arenaGate, requestGate}
 use Rattle.layout.specs.declared.Reason.{Reason}
-use Rattle.layout.specs.declared.Reason.the-variants.{Length, NotABlock, NoRoom, WouldMove}
+use Rattle.layout.specs.declared.Reason.the-variants.{Length, NotABlock, NoRoom, Frame, WouldMove, TextRoom}
 use Rattle.rules.specs.Answers.{Outcome, Result, refused, done, settle, pass}
 use Rattle.rules.specs.Spots.{Spot, nowhere, at, Policy, firstFit, held}
 use Rattle.rules.specs.Rules.{Way, shut, grants, grantFrom, grantedAt, allotted, Regrant, regranted, resized, relocated, released, freeWords}
 use Rattle.rules.specs.Rules.{widest, liveBlocks, freeChunks}
+use Rattle.rules.specs.Pictures.{pictureOf, Said, bad, good, said}
 
 -- a call on a block is refused where there is none
 abbrev pub onBlock : Spot → Result → Result
@@ -91,3 +92,22 @@ reportOn a =
     settle 4 a
     (pass (arenaGate a)
     (done (freeWords ks ∷ (widest ks - headerWords) ∷ liveBlocks ks ∷ freeChunks ks ∷ []) a))
+
+-- a picture for a lent text: how long it is; the arena stays as it is
+unfoldable pub writeOn : List ℕ → List ℕ → Outcome
+writeOn a text =
+    let long = length (pictureOf a) in
+    settle 1 a (pass (arenaGate a) (cond (leb long (length text)) (done (long ∷ []) a) (refused TextRoom)))
+
+-- the lent text after that: it begins with the picture, and its rest stays; a refusal leaves it as it was
+unfoldable pub textAfter : List ℕ → List ℕ → List ℕ
+textAfter a text = cond (eqb (writeOn a text .answer .code) 0) (pictureOf a ++ drop (length (pictureOf a)) text) text
+
+-- what comes of a text that says this, for an arena of `n` words: the words that it says
+abbrev pub readInto : ℕ → Said → Result
+readInto n bad = refused Frame
+readInto n (good ws) = cond (eqb (length ws) n) (pass (arenaGate ws) (done [] ws)) (refused Length)
+
+-- a lent text is read into the arena
+unfoldable pub readOn : List ℕ → List ℕ → Outcome
+readOn text a = settle 0 a (readInto (length a) (said text))

@@ -1,5 +1,6 @@
 -- Why a call is refused: what each reason says, call by call. ⊥ stands for what a call never answers.
 use mathlib.Core.Path.{_≡_}
+use mathlib.Core.Logic.{_≢_}
 use mathlib.Core.Bool.{true, false}
 use mathlib.Core.List.{List, _∷_}
 use Prim.Native.Nat.{ℕ, _+_, _≤_, _<_}
@@ -8,8 +9,9 @@ use Rattle.layout.specs.Numbers.{lawful, greatestRequest, need}
 use Rattle.layout.specs.Chunks.{Chunk, free, live}
 use Rattle.layout.specs.Walk.{sound, chunksOf}
 use Rattle.layout.specs.declared.Reason.{Reason}
-use Rattle.layout.specs.declared.Reason.the-variants.{Length, Damaged, NotABlock, Zero, TooLarge, NoRoom, Frame, WouldMove}
+use Rattle.layout.specs.declared.Reason.the-variants.{Length, Damaged, NotABlock, Zero, TooLarge, NoRoom, Frame, WouldMove, TextRoom}
 use Rattle.rules.specs.Stands.{Stands, SomeBlock, NoBlock, NoGap}
+use Rattle.rules.specs.Pictures.{pictureOf, Says}
 
 -- a request that an arena may be asked for
 abbrev pub Request : List ℕ → ℕ → Type 0
@@ -26,6 +28,7 @@ Grounds a block zero large room stuck TooLarge = (sound a ≡ true) × large
 Grounds a block zero large room stuck NoRoom = (sound a ≡ true) × room
 Grounds a block zero large room stuck Frame = ⊥
 Grounds a block zero large room stuck WouldMove = (sound a ≡ true) × stuck
+Grounds a block zero large room stuck TextRoom = ⊥
 
 abbrev pub StartRefused : List ℕ → Reason → Type 0
 StartRefused a why = (why ≡ Length) × (lawful (length a) ≡ false)
@@ -62,3 +65,17 @@ RelocateRefused a b n = RegrantRefused a b n (Request a n × SomeBlock a b × No
 
 abbrev pub ReallocRefused : List ℕ → ℕ → ℕ → Reason → Type 0
 ReallocRefused a b n = RegrantRefused a b n (Request a n × ShortBlock a b (need n) × NoGap a (need n)) ⊥
+
+-- to write a picture: the last is that the lent text is shorter than the picture
+pub data WriteRefused (a text : List ℕ) : Reason → Type 0 where
+  no-length : lawful (length a) ≡ false → WriteRefused a text Length
+  unsound : lawful (length a) ≡ true → sound a ≡ false → WriteRefused a text Damaged
+  short-text : sound a ≡ true → length text < length (pictureOf a) → WriteRefused a text TextRoom
+
+-- to read one into the words `a`: the text says no words; it says another number of words, or a number that no arena
+-- has; or the words that it says are not sound. Of the words `a` only their number matters
+pub data ReadRefused (text a : List ℕ) : Reason → Type 0 where
+  bad-text : ((ws : List ℕ) → Says text ws → ⊥) → ReadRefused text a Frame
+  other-length : (ws : List ℕ) → Says text ws → length ws ≢ length a → ReadRefused text a Length
+  no-length : (ws : List ℕ) → Says text ws → lawful (length ws) ≡ false → ReadRefused text a Length
+  unsound : (ws : List ℕ) → Says text ws → length ws ≡ length a → lawful (length ws) ≡ true → sound ws ≡ false → ReadRefused text a Damaged

@@ -1,6 +1,7 @@
 pub mod Answers
 pub mod Spots
 pub mod Rules
+pub mod Pictures
 pub mod Calls
 pub mod Stands
 pub mod Causes

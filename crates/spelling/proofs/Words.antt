@@ -7,7 +7,7 @@ use native.Mathlib.Omega.{arith}
 use native.Mathlib.Numerals.{add-one, towards-suc}
 use lib.ListN.{length, getD, drop, drop-of-length-le}
 use lib.Seq.{drop-cons}
-use Rattle.layout.proofs.Bounds.{AllBelow}
+use Rattle.layout.specs.Bounds.{AllBelow}
 use Rattle.layout.specs.Numbers.{wordValues}
 use Rattle.spelling.specs.Words.{wordOf, fourOf, wordsOf, bytesOf}
 

@@ -1,0 +1,95 @@
+-- A picture of an arena: its words as lines of text. And what a text says.
+use Prim.Native.Nat.{ℕ, zero, suc, _+_, _-_, _*_, _/_, _%_, _<_, min}
+use mathlib.Core.Path.{_≡_}
+use mathlib.Core.Bool.{Bool, true, false, cond, _&&_}
+use mathlib.Core.List.{List, [], _∷_, _++_, map}
+use lib.ListN.{length, take, drop}
+use lib.Dec.{eqb}
+use Rattle.layout.specs.Numbers.{wordValues}
+use Rattle.layout.specs.Bounds.{AllBelow}
+use Rattle.digits.specs.Digits.{lineEnd, numberOf, upper, fourDigitValues, twoDigits, fourDigits, eightDigits, inDigits}
+
+-- ---- what a picture is
+
+-- the words of a full frame
+abbrev pub frameWords : ℕ
+frameWords = 8
+
+-- the first line: 06, and how many words there are
+abbrev pub sizeLine : ℕ → List ℕ
+sizeLine n = twoDigits 6 ++ (fourDigits n ++ lineEnd ∷ [])
+
+-- a frame: 07, the index of its first word, and its words in eight digits each
+abbrev pub frame : ℕ → List ℕ → List ℕ
+frame at ws = twoDigits 7 ++ (fourDigits at ++ (inDigits eightDigits ws ++ lineEnd ∷ []))
+
+-- so many frames of the words `ws`, the first of which is word `at`: all are full but the last
+unfoldable pub framesFrom : ℕ → ℕ → List ℕ → List ℕ
+framesFrom zero at ws = []
+framesFrom (suc more) at ws = frame at (take frameWords ws) ++ framesFrom more (at + frameWords) (drop frameWords ws)
+
+-- the frames that `n` words take
+abbrev pub framesFor : ℕ → ℕ
+framesFor n = (n + (frameWords - 1)) / frameWords
+
+unfoldable pub pictureOf : List ℕ → List ℕ
+pictureOf ws = sizeLine (length ws) ++ framesFrom (framesFor (length ws)) 0 ws
+
+-- its bytes, as a formula of N: the theorem is `picture-length`
+abbrev pub pictureLength : ℕ → ℕ
+pictureLength n = 7 + (n * 8 + framesFor n * 7)
+
+-- ---- what a text says
+
+-- a text says these words: with its letters as capitals it is their picture, and they are words that a picture can have
+pub record Says (text ws : List ℕ) : Type 0 where
+  pub is : map upper text ≡ pictureOf ws
+  pub counted : length ws < fourDigitValues
+  pub fitting : AllBelow wordValues ws
+
+-- the words that a text says, if it says any
+pub data Said : Type 0 where
+  bad : Said
+  good : List ℕ → Said
+
+-- ---- which they are: the theorem `said-says` is that `said` finds the words that `Says` speaks of
+
+-- so many words at the start of a text, eight bytes each, whatever these are
+unfoldable pub wordsIn : ℕ → List ℕ → List ℕ
+wordsIn zero text = []
+wordsIn (suc more) text = numberOf (take 8 text) % wordValues ∷ wordsIn more (drop 8 text)
+
+-- the bytes of a first line, those of a frame before its words, and those of a frame with so many words
+abbrev pub sizeLineLength : ℕ
+sizeLineLength = 7
+
+abbrev pub frameHead : ℕ
+frameHead = 6
+
+abbrev pub frameLength : ℕ → ℕ
+frameLength count = 7 + count * 8
+
+-- the words at their places in so many frames, of which `left` are left
+unfoldable pub standingFrom : ℕ → ℕ → List ℕ → List ℕ
+standingFrom zero left text = []
+standingFrom (suc more) left text =
+    wordsIn (min frameWords left) (drop frameHead text)
+    ++ standingFrom more (left - frameWords) (drop (frameLength (min frameWords left)) text)
+
+-- how many words the first line tells, and the words at the places where a picture of so many has them
+abbrev pub standingCount : List ℕ → ℕ
+standingCount text = numberOf (take 4 (drop 2 text)) % fourDigitValues
+
+abbrev pub standing : List ℕ → List ℕ
+standing text = standingFrom (framesFor (standingCount text)) (standingCount text) (drop sizeLineLength text)
+
+-- two texts are the same
+unfoldable pub same : List ℕ → List ℕ → Bool
+same [] [] = true
+same [] (y ∷ ys) = false
+same (x ∷ xs) [] = false
+same (x ∷ xs) (y ∷ ys) = eqb x y && same xs ys
+
+-- the text is the picture of the words at their places, or it is bad
+unfoldable pub said : List ℕ → Said
+said text = cond (same (map upper text) (pictureOf (standing text))) (good (standing text)) bad
