@@ -11,7 +11,7 @@ use Rattle.digits.specs.Digits.{lineEnd, numberOf, upper, fourDigitValues, twoD
 use Rattle.digits.proofs.Reading.{four-read, eight-read}
 use Rattle.digits.proofs.Putting.{in-length}
 use Rattle.digits.proofs.Capitals.{Capitals, capitals-append, two-capitals, four-capitals, eight-capitals, in-capitals, number-upper}
-use Rattle.rules.specs.Pictures.{frameWords, sizeLine, frame, framesFrom, framesFor, pictureOf, pictureLength, wordsIn, frameHead, frameLength}
+use Rattle.rules.specs.Pictures.{frameWords, line, sizeLine, frame, framesFrom, framesFor, pictureOf, pictureLength, wordsIn, lineHead, lineLength}
 use Rattle.rules.specs.Pictures.{standingFrom, standingCount, standing}
 
 -- ---- how long it is
@@ -19,8 +19,9 @@ use Rattle.rules.specs.Pictures.{standingFrom, standingCount, standing}
 pub words-length : (ws : List ℕ) → length (inDigits eightDigits ws) ≡ length ws * 8
 words-length = in-length eightDigits 8 (λ v. refl)
 
-pub frame-length : (at : ℕ) (ws : List ℕ) → length (frame at ws) ≡ frameLength (length ws)
-frame-length at ws = omega (arith, length-append (inDigits eightDigits ws) (lineEnd ∷ []), words-length ws)
+pub line-length : (kind number : ℕ) (ws : List ℕ) → length (line kind number ws) ≡ lineLength (length ws)
+unfolding line
+line-length kind number ws = omega (arith, length-append (inDigits eightDigits ws) (lineEnd ∷ []), words-length ws)
 
 pub frames-length : (more at : ℕ) (ws : List ℕ) → more ≡ framesFor (length ws) → length (framesFrom more at ws) ≡ length ws * 8 + more * 7
 unfolding framesFrom
@@ -31,19 +32,21 @@ frames-length (suc more) at ws e =
     let long = length-take frameWords ws in
     let left = length-drop frameWords ws in
     let rest = frames-length more (at + frameWords) behind (omega arith) in
-    length-append (frame at front) (framesFrom more (at + frameWords) behind) ∙ omega (arith, frame-length at front)
+    length-append (frame at front) (framesFrom more (at + frameWords) behind) ∙ omega (arith, line-length 7 at front)
 
 pub picture-length : (ws : List ℕ) → length (pictureOf ws) ≡ pictureLength (length ws)
-unfolding pictureOf
+unfolding line pictureOf
 picture-length ws = omega (arith, frames-length (framesFor (length ws)) 0 ws refl)
 
 -- ---- it is in upper case
 
-line-capitals : (kind at : ℕ) (bs : List ℕ) → Capitals bs → Capitals (twoDigits kind ++ (fourDigits at ++ (bs ++ lineEnd ∷ [])))
-unfolding upper
-line-capitals kind at bs p =
-    capitals-append (twoDigits kind) (fourDigits at ++ (bs ++ lineEnd ∷ [])) (two-capitals kind)
-    (capitals-append (fourDigits at) (bs ++ lineEnd ∷ []) (four-capitals at) (capitals-append bs (lineEnd ∷ []) p refl))
+line-capitals : (kind number : ℕ) (ws : List ℕ) → Capitals (line kind number ws)
+unfolding upper line
+line-capitals kind number ws =
+    let bs = inDigits eightDigits ws in
+    capitals-append (twoDigits kind) (fourDigits number ++ (bs ++ lineEnd ∷ [])) (two-capitals kind)
+    (capitals-append (fourDigits number) (bs ++ lineEnd ∷ []) (four-capitals number)
+    (capitals-append bs (lineEnd ∷ []) (in-capitals eightDigits eight-capitals ws) refl))
 
 frames-capitals : (more at : ℕ) (ws : List ℕ) → Capitals (framesFrom more at ws)
 unfolding framesFrom
@@ -51,13 +54,12 @@ frames-capitals zero at ws = refl
 frames-capitals (suc more) at ws =
     let front = take frameWords ws in
     capitals-append (frame at front) (framesFrom more (at + frameWords) (drop frameWords ws))
-    (line-capitals 7 at (inDigits eightDigits front) (in-capitals eightDigits eight-capitals front))
-    (frames-capitals more (at + frameWords) (drop frameWords ws))
+    (line-capitals 7 at front) (frames-capitals more (at + frameWords) (drop frameWords ws))
 
 pub picture-capitals : (ws : List ℕ) → Capitals (pictureOf ws)
 unfolding pictureOf
 picture-capitals ws =
-    capitals-append (sizeLine (length ws)) (framesFrom (framesFor (length ws)) 0 ws) (line-capitals 6 (length ws) [] refl)
+    capitals-append (sizeLine (length ws)) (framesFrom (framesFor (length ws)) 0 ws) (line-capitals 6 (length ws) [])
     (frames-capitals (framesFor (length ws)) 0 ws)
 
 -- ---- the words at their places
@@ -79,7 +81,7 @@ below-cut (suc k) (w ∷ ws) fits = let (front, back) = below-cut k ws (fits .1)
 
 frames-standing : (more at left : ℕ) (ws : List ℕ) → left ≡ length ws → more ≡ framesFor left → AllBelow wordValues ws
     → standingFrom more left (framesFrom more at ws) ≡ ws
-unfolding framesFrom standingFrom
+unfolding line framesFrom standingFrom
 frames-standing zero at left [] e m fits = refl
 frames-standing zero at left (w ∷ ws) e m fits = absurd (omega arith)
 frames-standing (suc more) at left ws e m fits =
@@ -90,12 +92,12 @@ frames-standing (suc more) at left ws e m fits =
     let (low, high) = below-cut frameWords ws fits in
     ap₂ _++_ (ap (wordsIn (min frameWords left)) (append-assoc (inDigits eightDigits front) (lineEnd ∷ []) rest)
     ∙ words-read front (lineEnd ∷ rest) (min frameWords left) long low)
-    (ap (standingFrom more (left - frameWords)) (drop-at (frame at front) rest (frameLength (min frameWords left)) (omega (arith, frame-length at front)))
+    (ap (standingFrom more (left - frameWords)) (drop-at (frame at front) rest (lineLength (min frameWords left)) (omega (arith, line-length 7 at front)))
     ∙ frames-standing more (at + frameWords) (left - frameWords) behind (omega (arith, length-drop frameWords ws)) (omega arith) high)
     ∙ take-append-drop frameWords ws
 
 pub picture-standing : (ws : List ℕ) → length ws < fourDigitValues → AllBelow wordValues ws → standing (pictureOf ws) ≡ ws
-unfolding pictureOf
+unfolding line pictureOf
 picture-standing ws counted fits =
     let n : numberOf (fourDigits (length ws)) % fourDigitValues ≡ length ws
     = ap (λ (k : ℕ). k % fourDigitValues) (four-read (length ws) counted) ∙ omega arith in
@@ -126,9 +128,9 @@ unfolding standingFrom
 frames-upper zero left text = refl
 frames-upper (suc more) left text =
     let count = min frameWords left in
-    ap₂ _++_ (ap (wordsIn count) (drop-upper frameHead text) ∙ words-upper count (drop frameHead text))
-    (ap (standingFrom more (left - frameWords)) (drop-upper (frameLength count) text)
-    ∙ frames-upper more (left - frameWords) (drop (frameLength count) text))
+    ap₂ _++_ (ap (wordsIn count) (drop-upper lineHead text) ∙ words-upper count (drop lineHead text))
+    (ap (standingFrom more (left - frameWords)) (drop-upper (lineLength count) text)
+    ∙ frames-upper more (left - frameWords) (drop (lineLength count) text))
 
 pub standing-upper : (text : List ℕ) → standing (map upper text) ≡ standing text
 standing-upper text =
@@ -150,7 +152,7 @@ pub frames-below : (more left : ℕ) (text : List ℕ) → AllBelow wordValues (
 unfolding standingFrom
 frames-below zero left text = tt
 frames-below (suc more) left text =
-    words-below (min frameWords left) (drop frameHead text) _ (frames-below more (left - frameWords) (drop (frameLength (min frameWords left)) text))
+    words-below (min frameWords left) (drop lineHead text) _ (frames-below more (left - frameWords) (drop (lineLength (min frameWords left)) text))
 
 pub words-count : (count : ℕ) (text : List ℕ) → length (wordsIn count text) ≡ count
 unfolding wordsIn
@@ -162,5 +164,5 @@ unfolding standingFrom
 standing-count zero left text m = omega arith
 standing-count (suc more) left text m =
     let count = min frameWords left in
-    length-append (wordsIn count (drop frameHead text)) (standingFrom more (left - frameWords) (drop (frameLength count) text))
-    ∙ omega (arith, words-count count (drop frameHead text), standing-count more (left - frameWords) (drop (frameLength count) text) (omega arith))
+    length-append (wordsIn count (drop lineHead text)) (standingFrom more (left - frameWords) (drop (lineLength count) text))
+    ∙ omega (arith, words-count count (drop lineHead text), standing-count more (left - frameWords) (drop (lineLength count) text) (omega arith))

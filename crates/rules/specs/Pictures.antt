@@ -15,13 +15,17 @@ use Rattle.digits.specs.Digits.{lineEnd, numberOf, upper, fourDigitValues, twoD
 abbrev pub frameWords : ℕ
 frameWords = 8
 
+-- a line: its kind in two digits, a number in four, words in eight each, and the line's end
+unfoldable pub line : ℕ → ℕ → List ℕ → List ℕ
+line kind number ws = twoDigits kind ++ (fourDigits number ++ (inDigits eightDigits ws ++ lineEnd ∷ []))
+
 -- the first line: 06, and how many words there are
 abbrev pub sizeLine : ℕ → List ℕ
-sizeLine n = twoDigits 6 ++ (fourDigits n ++ lineEnd ∷ [])
+sizeLine n = line 6 n []
 
--- a frame: 07, the index of its first word, and its words in eight digits each
+-- a frame: 07, the index of its first word, and its words
 abbrev pub frame : ℕ → List ℕ → List ℕ
-frame at ws = twoDigits 7 ++ (fourDigits at ++ (inDigits eightDigits ws ++ lineEnd ∷ []))
+frame at ws = line 7 at ws
 
 -- so many frames of the words `ws`, the first of which is word `at`: all are full but the last
 unfoldable pub framesFrom : ℕ → ℕ → List ℕ → List ℕ
@@ -35,9 +39,12 @@ framesFor n = (n + (frameWords - 1)) / frameWords
 unfoldable pub pictureOf : List ℕ → List ℕ
 pictureOf ws = sizeLine (length ws) ++ framesFrom (framesFor (length ws)) 0 ws
 
--- its bytes, as a formula of N: the theorem is `picture-length`
+-- the bytes of a line with so many words, and those of a picture, as a formula of N: the theorem is `picture-length`
+abbrev pub lineLength : ℕ → ℕ
+lineLength count = 7 + count * 8
+
 abbrev pub pictureLength : ℕ → ℕ
-pictureLength n = 7 + (n * 8 + framesFor n * 7)
+pictureLength n = lineLength n + framesFor n * 7
 
 -- ---- what a text says
 
@@ -59,29 +66,23 @@ unfoldable pub wordsIn : ℕ → List ℕ → List ℕ
 wordsIn zero text = []
 wordsIn (suc more) text = numberOf (take 8 text) % wordValues ∷ wordsIn more (drop 8 text)
 
--- the bytes of a first line, those of a frame before its words, and those of a frame with so many words
-abbrev pub sizeLineLength : ℕ
-sizeLineLength = 7
-
-abbrev pub frameHead : ℕ
-frameHead = 6
-
-abbrev pub frameLength : ℕ → ℕ
-frameLength count = 7 + count * 8
+-- the bytes of a line before its words
+abbrev pub lineHead : ℕ
+lineHead = 6
 
 -- the words at their places in so many frames, of which `left` are left
 unfoldable pub standingFrom : ℕ → ℕ → List ℕ → List ℕ
 standingFrom zero left text = []
 standingFrom (suc more) left text =
-    wordsIn (min frameWords left) (drop frameHead text)
-    ++ standingFrom more (left - frameWords) (drop (frameLength (min frameWords left)) text)
+    wordsIn (min frameWords left) (drop lineHead text)
+    ++ standingFrom more (left - frameWords) (drop (lineLength (min frameWords left)) text)
 
 -- how many words the first line tells, and the words at the places where a picture of so many has them
 abbrev pub standingCount : List ℕ → ℕ
 standingCount text = numberOf (take 4 (drop 2 text)) % fourDigitValues
 
 abbrev pub standing : List ℕ → List ℕ
-standing text = standingFrom (framesFor (standingCount text)) (standingCount text) (drop sizeLineLength text)
+standing text = standingFrom (framesFor (standingCount text)) (standingCount text) (drop (lineLength 0) text)
 
 -- two texts are the same
 unfoldable pub same : List ℕ → List ℕ → Bool

@@ -1,0 +1,2 @@
+-- The laws of the lines of a picture.
+pub mod Lines
