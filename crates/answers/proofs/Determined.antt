@@ -5,7 +5,7 @@ use Rattle.layout.specs.Reasons.{number}
 use Rattle.layout.specs.declared.Reason.{Reason}
 use Rattle.layout.proofs.Reasons.{number-positive, number-injective}
 use Rattle.rules.specs.Answers.{Answer, Outcome}
-use Rattle.answers.specs.Readings.{finishNumbers, grantedNumbers, sizedNumbers, reportedNumbers}
+use Rattle.answers.specs.Readings.{finishNumbers, grantedNumbers, sizedNumbers, reportedNumbers, writtenNumbers}
 use Rattle.answers.specs.Determined.{Determined}
 use Rattle.answers.specs.declared.Finish.{Finish}
 use Rattle.answers.specs.declared.Finish.the-variants.{Done, Refused as NotDone}
@@ -15,6 +15,8 @@ use Rattle.answers.specs.declared.Sized.{Sized}
 use Rattle.answers.specs.declared.Sized.the-variants.{Words, Refused as NotSized}
 use Rattle.answers.specs.declared.Reported.{Reported}
 use Rattle.answers.specs.declared.Reported.the-variants.{Counts, Refused as NotReported}
+use Rattle.answers.specs.declared.Written.{Written}
+use Rattle.answers.specs.declared.Written.the-variants.{Bytes, Refused as NotWritten}
 
 -- ---- an answer in numbers says which answer it was
 
@@ -51,6 +53,12 @@ reported-injective (Counts f l b c) (NotReported w) e = absurd (success-or-refus
 reported-injective (NotReported w) (Counts f l b c) e = absurd (success-or-refusal w (same-code (sym e)))
 reported-injective (NotReported w) (NotReported w′) e = ap NotReported (number-injective w w′ (same-code e))
 
+pub written-injective : (r r′ : Written) → writtenNumbers r ≡ writtenNumbers r′ → r ≡ r′
+written-injective (Bytes n) (Bytes n′) e = let v = same-values e in cc
+written-injective (Bytes n) (NotWritten w) e = absurd (success-or-refusal w (same-code e))
+written-injective (NotWritten w) (Bytes n) e = absurd (success-or-refusal w (same-code (sym e)))
+written-injective (NotWritten w) (NotWritten w′) e = ap NotWritten (number-injective w w′ (same-code e))
+
 -- ---- two results, and the words left with each, that give the same outcome
 
 -- two things that are each what is said are the same
@@ -74,3 +82,6 @@ sized-determined = determined sizedNumbers sized-injective
 
 pub reported-determined : (outcome : Outcome) → Determined reportedNumbers outcome
 reported-determined = determined reportedNumbers reported-injective
+
+pub written-determined : (outcome : Outcome) → Determined writtenNumbers outcome
+written-determined = determined writtenNumbers written-injective

@@ -1,6 +1,6 @@
 -- Nothing is lost where an answer is padded: its fields are the first of the four, and it has no more.
 use mathlib.Core.Path.{_≡_, refl}
-use Rattle.answers.specs.Readings.{finishNumbers, grantedNumbers, sizedNumbers, reportedNumbers}
+use Rattle.answers.specs.Readings.{finishNumbers, grantedNumbers, sizedNumbers, reportedNumbers, writtenNumbers}
 use Rattle.answers.specs.Padded.{padded, answerIn}
 use Rattle.answers.specs.declared.Finish.{Finish}
 use Rattle.answers.specs.declared.Finish.the-variants.{Done, Refused as NotDone}
@@ -10,6 +10,8 @@ use Rattle.answers.specs.declared.Sized.{Sized}
 use Rattle.answers.specs.declared.Sized.the-variants.{Words, Refused as NotSized}
 use Rattle.answers.specs.declared.Reported.{Reported}
 use Rattle.answers.specs.declared.Reported.the-variants.{Counts, Refused as NotReported}
+use Rattle.answers.specs.declared.Written.{Written}
+use Rattle.answers.specs.declared.Written.the-variants.{Bytes, Refused as NotWritten}
 
 pub finish-told : (r : Finish) → answerIn (padded (finishNumbers r)) ≡ finishNumbers r
 finish-told Done = refl
@@ -26,3 +28,7 @@ sized-told (NotSized why) = refl
 pub reported-told : (r : Reported) → answerIn (padded (reportedNumbers r)) ≡ reportedNumbers r
 reported-told (Counts freeWords largest liveBlocks freeChunks) = refl
 reported-told (NotReported why) = refl
+
+pub written-told : (r : Written) → answerIn (padded (writtenNumbers r)) ≡ writtenNumbers r
+written-told (Bytes bytes) = refl
+written-told (NotWritten why) = refl

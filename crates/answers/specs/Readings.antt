@@ -9,6 +9,8 @@ use Rattle.answers.specs.declared.Sized.{Sized}
 use Rattle.answers.specs.declared.Sized.the-variants.{Words, Refused as NotSized}
 use Rattle.answers.specs.declared.Reported.{Reported}
 use Rattle.answers.specs.declared.Reported.the-variants.{Counts, Refused as NotReported}
+use Rattle.answers.specs.declared.Written.{Written}
+use Rattle.answers.specs.declared.Written.the-variants.{Bytes, Refused as NotWritten}
 
 abbrev pub finishNumbers : Finish → Answer
 finishNumbers Done = success []
@@ -25,3 +27,7 @@ sizedNumbers (NotSized why) = refusal 1 why
 abbrev pub reportedNumbers : Reported → Answer
 reportedNumbers (Counts freeWords largest liveBlocks freeChunks) = success (freeWords ∷ largest ∷ liveBlocks ∷ freeChunks ∷ [])
 reportedNumbers (NotReported why) = refusal 4 why
+
+abbrev pub writtenNumbers : Written → Answer
+writtenNumbers (Bytes bytes) = success (bytes ∷ [])
+writtenNumbers (NotWritten why) = refusal 1 why

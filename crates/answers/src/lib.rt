@@ -1,7 +1,7 @@
 // What the calls answer, and the same in the documents' numbers.
 use layout::Reason;
 ghost use mathlib.Core.Path.{_≡_};
-ghost use Rattle.answers.specs.Readings.{finishNumbers, grantedNumbers, sizedNumbers, reportedNumbers};
+ghost use Rattle.answers.specs.Readings.{finishNumbers, grantedNumbers, sizedNumbers, reportedNumbers, writtenNumbers};
 ghost use Rattle.answers.specs.Padded.{padded, paddedRefusal};
 
 // What start and free answer.
@@ -30,6 +30,12 @@ pub enum Reported {
         live_blocks: u32,
         free_chunks: u32,
     },
+    Refused(Reason),
+}
+
+// What the writing of a picture answers: how many bytes it has.
+pub enum Written {
+    Bytes(u32),
     Refused(Reason),
 }
 
@@ -109,5 +115,19 @@ pub fn reported_numbers(reported: Reported) -> Numbers
             fields: [free_words, largest, live_blocks, free_chunks],
         },
         Reported::Refused(why) => refusal_numbers(4, why),
+    }
+}
+
+// What the writing of a picture answers, in numbers.
+pub fn written_numbers(written: Written) -> Numbers
+    ensures { λ r. ⌜ r ≡ padded (writtenNumbers written) ⌝ }
+{
+    match written {
+        Written::Bytes(bytes) => Numbers {
+            code: 0,
+            count: 1,
+            fields: [bytes, 0, 0, 0],
+        },
+        Written::Refused(why) => refusal_numbers(1, why),
     }
 }

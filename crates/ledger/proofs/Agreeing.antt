@@ -12,9 +12,9 @@ use Rattle.layout.proofs.Holds.{Lawful}
 use Rattle.layout.proofs.Round.{sound-chunks}
 use Rattle.rules.specs.Stands.{Stands, NoBlock}
 use Rattle.rules.proofs.Searches.{BlockAt}
-use Rattle.ledger.specs.Ledger.{Entry, Ledger, Listed, Unlisted}
+use Rattle.ledger.specs.Ledger.{Entry, Ledger, entryAt, blocksFrom, blocksOf, Listed, Unlisted}
 use Rattle.ledger.proofs.Entries.{Laid, listed-at, listed-split}
-use Rattle.ledger.proofs.Blocks.{entryAt, blocksFrom, blocksOf, blocks-append, blocks-laid, Chunked, chunked}
+use Rattle.ledger.proofs.Blocks.{blocks-append, blocks-laid, Chunked, chunked}
 
 -- the words `a` are a sound arena of `n` words, and `ledger` has its live blocks
 pub record Agrees (n : ℕ) (a : List ℕ) (ledger : Ledger) : Type 0 where

@@ -1,30 +1,15 @@
--- The live blocks of a list of chunks, as a ledger has them: of chunks in a row, of merged chunks, and of an arena.
+-- The laws of live blocks as a ledger has them: of chunks in a row, of merged chunks, and of one entry among them.
 use mathlib.Core.Path.{_≡_, refl, sym, ap, _∙_}
 use mathlib.Core.List.{List, [], _∷_, _++_, nil≢cons, head-eq-of-cons-eq, tail-eq-of-cons-eq}
 use Prim.Native.Nat.{ℕ, _+_, _-_}
 use native.Mathlib.Omega.{arith}
 use lib.ListN.{length}
-use Rattle.layout.specs.Numbers.{firstChunk, headerWords}
+use Rattle.layout.specs.Numbers.{headerWords}
 use Rattle.layout.specs.Chunks.{Chunk, free, live, size, total}
-use Rattle.layout.specs.Walk.{chunksOf}
 use Rattle.layout.proofs.Holds.{Sizes}
 use Rattle.rules.specs.Rules.{join, joined, freeWords, liveBlocks}
-use Rattle.ledger.specs.Ledger.{Entry, Ledger, heldWords}
+use Rattle.ledger.specs.Ledger.{Entry, Ledger, entryAt, blocksFrom, heldWords}
 use Rattle.ledger.proofs.Entries.{Laid, laid-weaken}
-
--- the live chunk of `s` words that starts at word `c`
-abbrev pub entryAt : ℕ → ℕ → Entry
-entryAt c s = record { block = c + headerWords; granted = s - headerWords }
-
--- the live blocks of `ks`, which begin at word `c`
-abbrev pub blocksFrom : ℕ → List Chunk → Ledger
-blocksFrom c [] = []
-blocksFrom c (free s ∷ ks) = blocksFrom (c + s) ks
-blocksFrom c (live s ∷ ks) = entryAt c s ∷ blocksFrom (c + s) ks
-
--- the live blocks of an arena
-abbrev pub blocksOf : List ℕ → Ledger
-blocksOf a = blocksFrom firstChunk (chunksOf a)
 
 -- ---- chunks in a row, of which the second begin at word `d`
 

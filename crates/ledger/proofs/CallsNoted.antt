@@ -1,5 +1,5 @@
 -- Each call of this project goes as a ledger notes it.
-use mathlib.Core.Path.{_≡_, refl, sym}
+use mathlib.Core.Path.{_≡_, refl, sym, _∙_}
 use mathlib.Core.Bool.{Bool, true, false, cond}
 use mathlib.Core.List.{List, []}
 use Prim.Native.Nat.{ℕ}
@@ -11,37 +11,49 @@ use Rattle.layout.specs.Numbers.{need}
 use Rattle.layout.specs.Reasons.{number}
 use Rattle.layout.specs.declared.Reason.{Reason}
 use Rattle.layout.proofs.Reasons.{number-positive}
-use Rattle.rules.specs.Answers.{Outcome, success}
+use Rattle.rules.specs.Answers.{Outcome, success, refusal}
 use Rattle.rules.specs.Rooms.{Needed}
-use Rattle.rules.specs.Causes.{Request}
+use Rattle.rules.specs.Pictures.{said}
+use Rattle.rules.specs.Causes.{Request, ReadRefused}
 use Rattle.layout.proofs.Round.{sound-lawful}
 use Rattle.rules.proofs.Gates.{request-needed}
 use Rattle.rules.proofs.Starting.{whole-lawful}
 use Rattle.rules.proofs.CallCases.{Case, refuses, does, Restarts, restarts, start-case, Allots, allots, alloc-case, Frees, frees, free-case, Measures}
 use Rattle.rules.proofs.CallCases.{measures, size-case, Reports, reports, report-case}
 use Rattle.rules.proofs.RegrantCases.{Resizes, resizes, Relocates, moves, Regrants, in-place, elsewhere, resize-case, relocate-case, realloc-case}
+use Rattle.rules.proofs.PictureCalls.{Writes, writes, write-case, Reads, reads, read-case}
 use Rattle.rules.proofs.OldBlock.{still-there}
-use Rattle.ledger.specs.Events.{Call, start, alloc, free, resize, relocate, realloc, size, view, report, call, ours}
-use Rattle.ledger.specs.Ledger.{Ledger, grants, frees, regrants, effect, noted, ifDone, ledgerAfter}
+use Rattle.ledger.specs.Events.{Call, start, alloc, free, resize, relocate, realloc, size, view, report, write, read, call, ours}
+use Rattle.ledger.specs.Ledger.{Ledger, picturedBlocks, renews, grants, frees, regrants, effect, noted, ifDone, ledgerAfter, Done}
 use Rattle.ledger.specs.Holders.{renamed}
 use Rattle.ledger.proofs.Agreeing.{Agrees}
+use Rattle.ledger.proofs.Readings.{said-agrees}
 use Rattle.ledger.proofs.Going.{Goes, unchanged-goes, written-goes, freed-goes, stays-goes, granted-goes}
 use Rattle.ledger.proofs.Moves.{moved-goes}
 
--- a call on the words `a` that came to this outcome
+-- the blocks go on where a call on the words `a` came to this outcome
 abbrev CallGoes : ℕ → List ℕ → Ledger → Call → Outcome → Type 0
 CallGoes n a ledger c outcome =
     Goes n a ledger (λ b. ifDone (outcome .answer) (renamed (effect (call c)) (outcome .answer) b) b) (outcome .words)
     (ledgerAfter (call c) (outcome .answer) ledger)
 
+-- how a call goes that came to this outcome: the blocks go on, or it is done and they all end, and others are there
+pub data CallNoted (n : ℕ) (a : List ℕ) (ledger : Ledger) (c : Call) (outcome : Outcome) : Type 0 where
+  kept : CallGoes n a ledger c outcome → CallNoted n a ledger c outcome
+  renewed : Done (outcome .answer) → (blocks : Ledger) → effect (call c) ≡ renews blocks → Agrees n (outcome .words) blocks
+      → CallNoted n a ledger c outcome
+
 -- a refusal changes nothing, so all depends on what is done
+refused-goes : (n : ℕ) (a : List ℕ) (ledger : Ledger) (c : Call) (fields : ℕ) (why : Reason) → Agrees n a ledger
+    → CallGoes n a ledger c (record { answer = refusal fields why; words = a })
+refused-goes n a ledger c fields why g = rw (ne-eqb (number why) 0 (omega (arith, number-positive why))) (unchanged-goes n a ledger g)
+
 case-goes : {fields : ℕ} {n : ℕ} {a : List ℕ} {ledger : Ledger} {Refuses : Reason → Type 0} {Does : List ℕ → List ℕ → Type 0} {outcome : Outcome}
     (c : Call) → Agrees n a ledger
     → ((values after : List ℕ) → Does values after
     → Goes n a ledger (renamed (effect (call c)) (success values)) after (noted (effect (call c)) (success values) ledger))
     → Case fields a Refuses Does outcome → CallGoes n a ledger c outcome
-case-goes {n = n} {a = a} {ledger = ledger} c g f (refuses why r) =
-    rw (ne-eqb (number why) 0 (omega (arith, number-positive why))) (unchanged-goes n a ledger g)
+case-goes {fields} {n} {a} {ledger} c g f (refuses why r) = refused-goes n a ledger c fields why g
 case-goes c g f (does {values} {after} d) = f values after d
 
 module _ (n : ℕ) (a : List ℕ) (ledger : Ledger) (g : Agrees n a ledger) where
@@ -88,13 +100,31 @@ module _ (n : ℕ) (a : List ℕ) (ledger : Ledger) (g : Agrees n a ledger) wher
   report-goes : (values after : List ℕ) → Reports a values after → Goes n a ledger (λ c. c) after ledger
   report-goes values after (reports e) = unchanged-goes n a ledger g
 
-  pub call-goes : (c : Call) → CallGoes n a ledger c (ours c a)
-  call-goes start = case-goes start g start-goes (start-case a)
-  call-goes (alloc w) = case-goes (alloc w) g (alloc-goes w) (alloc-case a w)
-  call-goes (free b) = case-goes (free b) g (free-goes b) (free-case a b)
-  call-goes (resize b w) = case-goes (resize b w) g (resize-goes b w) (resize-case a b w)
-  call-goes (relocate b w) = case-goes (relocate b w) g (relocate-goes b w) (relocate-case a b w)
-  call-goes (realloc b w) = case-goes (realloc b w) g (realloc-goes b w) (realloc-case a b w)
-  call-goes (size b) = case-goes (size b) g (size-goes b) (size-case a b)
-  call-goes (view b) = unchanged-goes n a ledger g
-  call-goes report = case-goes report g report-goes (report-case a)
+  write-goes : (text values after : List ℕ) → Writes a text values after → Goes n a ledger (λ c. c) after ledger
+  write-goes text values after (writes e room) = unchanged-goes n a ledger g
+
+  -- a picture may have a block of an old one's number, so no old words are said to be kept
+  read-noted : (text : List ℕ) {outcome : Outcome} → Case 0 a (ReadRefused text a) (Reads text a) outcome → CallNoted n a ledger (read text) outcome
+  read-noted text (refuses why r) = kept (refused-goes n a ledger (read text) 0 why g)
+  read-noted text (does (reads ws s e d)) = renewed refl (picturedBlocks (said text)) refl (said-agrees n text ws s (e ∙ g .long) d)
+
+  pub call-noted : (c : Call) → CallNoted n a ledger c (ours c a)
+  call-noted start = kept (case-goes start g start-goes (start-case a))
+  call-noted (alloc w) = kept (case-goes (alloc w) g (alloc-goes w) (alloc-case a w))
+  call-noted (free b) = kept (case-goes (free b) g (free-goes b) (free-case a b))
+  call-noted (resize b w) = kept (case-goes (resize b w) g (resize-goes b w) (resize-case a b w))
+  call-noted (relocate b w) = kept (case-goes (relocate b w) g (relocate-goes b w) (relocate-case a b w))
+  call-noted (realloc b w) = kept (case-goes (realloc b w) g (realloc-goes b w) (realloc-case a b w))
+  call-noted (size b) = kept (case-goes (size b) g (size-goes b) (size-case a b))
+  call-noted (view b) = kept (unchanged-goes n a ledger g)
+  call-noted report = kept (case-goes report g report-goes (report-case a))
+  call-noted (write text) = kept (case-goes (write text) g (write-goes text) (write-case a text))
+  call-noted (read text) = read-noted text (read-case text a)
+
+  -- either way the ledger agrees with the words
+  pub call-agrees : (c : Call) → Agrees n (ours c a .words) (ledgerAfter (call c) (ours c a .answer) ledger)
+  call-agrees c = go (call-noted c)
+    where
+      go : {outcome : Outcome} → CallNoted n a ledger c outcome → Agrees n (outcome .words) (ledgerAfter (call c) (outcome .answer) ledger)
+      go (kept goes) = goes .agrees
+      go (renewed z blocks p agrees) = rw (z, p) agrees

@@ -11,8 +11,8 @@ use Rattle.layout.specs.Chunks.{Chunk, free, live, total}
 use Rattle.layout.proofs.Holds.{Sizes}
 use Rattle.rules.specs.Rules.{splits, taken, cut, trim}
 use Rattle.rules.proofs.Rooms.{roomTail}
-use Rattle.ledger.specs.Ledger.{Entry, enter, strike}
-use Rattle.ledger.proofs.Blocks.{entryAt, blocksFrom, blocks-around, blocks-laid}
+use Rattle.ledger.specs.Ledger.{Entry, enter, strike, entryAt, blocksFrom}
+use Rattle.ledger.proofs.Blocks.{blocks-around, blocks-laid}
 use Rattle.ledger.proofs.Entries.{Laid, enter-at, strike-at}
 
 -- ---- the blocks of what a rule puts in

@@ -1,17 +1,26 @@
 -- Demand 3 of our calls, over every run.
-use mathlib.Core.Path.{sym, _∙_}
+use mathlib.Core.Path.{sym, ap, _∙_}
 use mathlib.Core.Bool.{true≢false}
+use Rattle.rules.specs.Answers.{Outcome}
 use Rattle.rules.proofs.Calls.{start-behaves}
-use Rattle.ledger.specs.Events.{alloc, resize, relocate, realloc, ours}
-use Rattle.ledger.specs.Demands.{Starts, Lengths, Apart, Inside, Keeps, Lasts, Sums, RoomForAlloc, RoomForResize, RoomForRelocate}
+use Rattle.rules.proofs.PictureCalls.{reads-sound}
+use Rattle.ledger.specs.Events.{alloc, resize, relocate, realloc, read, ours}
+use Rattle.ledger.specs.Demands.{Starts, Receives, Lengths, Apart, Inside, Keeps, Lasts, Sums, RoomForAlloc, RoomForResize, RoomForRelocate}
 use Rattle.ledger.specs.Demands.{RoomForRealloc, ShrinksToNeed, Known}
 use Rattle.ledger.proofs.WantOfRoom.{alloc-room, resize-room, relocate-room, realloc-room, resize-shrinks, realloc-shrinks}
+use Rattle.ledger.proofs.Readings.{read-leaves}
 use Rattle.ledger.proofs.Showing.{lies-apart, lies-inside, adds-up, tells}
 use Rattle.ledger.proofs.Runs.{block-keeps, run-agrees}
 use Rattle.ledger.proofs.Lasting.{stored-lasts}
 
 pub starts : Starts ours
 starts a l = start-behaves a .done .1 (λ why h. true≢false (sym l ∙ h .1))
+
+pub receives : Receives ours
+receives a text = (
+  λ z. let (s, e, d) = read-leaves text a z in (ours (read text) a .words, s, e, d),
+  λ (ws, s, e, d). ap (λ (outcome : Outcome). outcome .answer .code) (reads-sound text a ws s e d),
+)
 
 pub lengths : Lengths ours
 lengths n s run = run-agrees run .long

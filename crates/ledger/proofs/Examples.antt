@@ -1,9 +1,9 @@
 -- Runs that are there, computed: that of document 01's table; its move, which goes on to a cut and a free, with what
--- was stored last in the block; and the same move by resize and relocate, which goes on to a move to a shorter block,
--- and to a resize.
+-- was stored last in the block; the same move by resize and relocate, which goes on to a move to a shorter block, and
+-- to a resize; and the picture of the moved arena, which is mailed and read back.
 use Prim.Native.Nat.{ℕ, _<_}
 use mathlib.Core.Path.{_≡_, refl, ap}
-use mathlib.Core.Logic.{_≢_, inl, ⊎-elim}
+use mathlib.Core.Logic.{_≢_, inl, inr, ⊎-elim}
 use mathlib.Core.List.{List, [], _∷_, _++_, map}
 use native.Mathlib.Omega.{arith}
 use lib.ListN.{set, replicate, take, drop}
@@ -13,12 +13,15 @@ use Rattle.layout.specs.Reasons.{arenaGate, requestGate}
 use Rattle.rules.specs.Answers.{Answer, success}
 use Rattle.rules.specs.Spots.{lowest}
 use Rattle.rules.specs.Rules.{joined, copied}
-use Rattle.rules.specs.Calls.{startOn, allocBy, freeOn, regrantBy, reportOn}
-use Rattle.ledger.specs.Events.{Call, start, alloc, free, resize, relocate, realloc, report, Event, call, store, ours}
+use Rattle.rules.specs.Pictures.{pictureOf, framesFrom, line, wordsIn, standingFrom, same, said}
+use Rattle.digits.specs.Digits.{upper, worth, glyph}
+use Rattle.rules.specs.Calls.{startOn, allocBy, freeOn, regrantBy, reportOn, writeOn, readOn}
+use Rattle.ledger.specs.Events.{Call, start, alloc, free, resize, relocate, realloc, report, write as writePicture, read}
+use Rattle.ledger.specs.Events.{Event, call, store, ours}
 use Rattle.ledger.specs.Ledger.{Entry, enter, strike, told}
 use Rattle.ledger.specs.Gaps.{gaps}
-use Rattle.ledger.specs.Runs.{State, Allowed, answerTo, after, Run, begun, next}
-use Rattle.ledger.specs.Holders.{numberAfter, Ended, Cut, StoredLast, just, still}
+use Rattle.ledger.specs.Runs.{State, Allowed, answerTo, after, Run, begun, arrived, next}
+use Rattle.ledger.specs.Holders.{numberAfter, Ended, Cut, StoredLast, just, pictured, still}
 
 -- ---- how a run is played
 
@@ -37,9 +40,10 @@ abbrev play : {n : ℕ} {s : State} → Run ours n s → (events : List Event) �
 play run [] allowed = run
 play run (event ∷ events) allowed = play (next run event (allowed .0)) events (allowed .1)
 
--- what a run's calls answered, the start first
+-- what a run's calls answered, the start or the reading that it begins with first
 abbrev answers : {n : ℕ} {s : State} → Run ours n s → List Answer
 answers (begun a long l) = ours start a .answer ∷ []
+answers (arrived text a long z) = ours (read text) a .answer ∷ []
 answers (next {s} run (call c) allowed) = answers run ++ ours c (s .words) .answer ∷ []
 answers (next {s} run (store b i v) allowed) = answers run
 
@@ -336,3 +340,55 @@ pub halves-answers : answers grown ≡ answers stored ++ record { code = 8; valu
 unfolding startOn allocBy regrantBy arenaGate requestGate sound chunksOf walked walkFrom walk meet lowest written write header held stored halves
     shortened grown
 halves-answers = refl
+
+-- ---- the picture of the arena after the move: it is written, mailed, and read back
+
+abbrev picture : List ℕ
+picture = pictureOf (movedState .words)
+
+-- its 291 bytes are written, and nothing changes
+unfoldable pub drawn : Run ours 32 movedState
+unfolding writeOn pictureOf framesFrom line glyph arenaGate sound chunksOf walked walkFrom walk meet
+drawn = play moved (call (writePicture (replicate 291 0)) ∷ []) (tt, tt)
+
+-- it arrives in words that were all zero: they are the arena, and the ledger has its blocks
+unfoldable pub mailed : Run ours 32 movedState
+unfolding readOn said pictureOf framesFrom line wordsIn standingFrom same upper worth glyph arenaGate sound chunksOf walked walkFrom walk meet
+mailed = arrived picture (replicate 32 0) refl refl
+
+pub mailed-gaps : gaps 32 (movedState .ledger) ≡ 14 ∷ 4 ∷ 0 ∷ []
+mailed-gaps = refl
+
+-- whoever reads it knows what block 18 holds
+pub seven-mailed : StoredLast ours 32 movedState 18 1 7
+unfolding readOn said pictureOf framesFrom line wordsIn standingFrom same upper worth glyph arenaGate sound chunksOf walked walkFrom walk meet
+seven-mailed = pictured (record { words = replicate 32 0; ledger = [] }) picture mailed refl 18 1 (entry 18 6, inl refl, refl, omega arith)
+
+-- without its last byte it is not read and changes nothing; then block 18 is freed
+abbrev releasedState : State
+releasedState = record { words = set (set (movedState .words) 2 26) 3 0; ledger = entry 30 2 ∷ [] }
+
+unfoldable pub released : Run ours 32 releasedState
+unfolding readOn said pictureOf framesFrom line wordsIn standingFrom same upper worth glyph freeOn arenaGate sound chunksOf walked walkFrom walk meet
+    lowest joined written write header strike
+released = play mailed (call (read (take 290 picture)) ∷ call (free 18) ∷ []) (tt, (tt, tt))
+
+-- read back where a 9 was stored since, it ends that block 18, and the block 18 of the picture holds a 0 there
+unfoldable pub restored : Run ours 32 movedState
+unfolding readOn said pictureOf framesFrom line wordsIn standingFrom same upper worth glyph arenaGate sound chunksOf walked walkFrom walk meet
+restored = play filled (call (read picture) ∷ []) (tt, tt)
+
+pub nine-ended : Ended ours (call (read picture)) filledState 18
+unfolding readOn said pictureOf framesFrom line wordsIn standingFrom same upper worth glyph arenaGate sound chunksOf walked walkFrom walk meet
+nine-ended = (refl, inr (_, refl))
+
+pub zero-restored : StoredLast ours 32 movedState 18 5 0
+unfolding readOn said pictureOf framesFrom line wordsIn standingFrom same upper worth glyph arenaGate sound chunksOf walked walkFrom walk meet
+zero-restored = pictured filledState picture restored refl 18 5 (entry 18 6, inl refl, refl, omega arith)
+
+-- the picture's length; and of the run that it begins, the two readings and the free
+pub picture-answers : (answers drawn ≡ answers moved ++ success (291 ∷ []) ∷ [])
+    × (answers released ≡ success [] ∷ record { code = 7; values = [] } ∷ success [] ∷ [])
+unfolding startOn allocBy freeOn regrantBy writeOn readOn said pictureOf framesFrom line wordsIn standingFrom same upper worth glyph arenaGate
+    requestGate sound chunksOf walked walkFrom walk meet lowest written write header held stored moved drawn mailed released
+picture-answers = (refl, refl)

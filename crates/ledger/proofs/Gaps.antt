@@ -10,8 +10,8 @@ use Rattle.layout.specs.Chunks.{Chunk, free, live, total}
 use Rattle.layout.proofs.Holds.{Sizes, Spaced}
 use Rattle.rules.specs.Rooms.{roomWords}
 use Rattle.rules.proofs.Searches.{FreeShorter, free-shorter-tail}
+use Rattle.ledger.specs.Ledger.{blocksFrom}
 use Rattle.ledger.specs.Gaps.{gapFrom, gapsFrom, EachShorter}
-use Rattle.ledger.proofs.Blocks.{blocksFrom}
 
 -- the gaps of `ks`, where `p` free words stand right before them
 abbrev pub gapsIn : ℕ → List Chunk → List ℕ

@@ -18,8 +18,8 @@ use Rattle.rules.proofs.Rooms.{roomTail, room-split, room-words}
 use Rattle.rules.proofs.Staying.{KeepsOfRoom, kept-numbers, kept-sizes, kept-lawful}
 use Rattle.rules.proofs.Remainder.{cut-lawful, cut-numbers}
 use Rattle.rules.proofs.Keeping.{chunks-lawful, freed-lawful}
-use Rattle.ledger.specs.Ledger.{Entry, Ledger, enter, strike, Listed, Unlisted}
-use Rattle.ledger.proofs.Blocks.{entryAt, blocksFrom, blocks-joined, blocks-laid, chunked}
+use Rattle.ledger.specs.Ledger.{Entry, Ledger, enter, strike, entryAt, blocksFrom, Listed, Unlisted}
+use Rattle.ledger.proofs.Blocks.{blocks-joined, blocks-laid, chunked}
 use Rattle.ledger.proofs.Entries.{Laid, listed-split, laid-fresh}
 use Rattle.ledger.proofs.Changes.{cut-blocks, trim-blocks, tail-blocks, enters, leaves, replaces}
 use Rattle.ledger.proofs.Agreeing.{Agrees}

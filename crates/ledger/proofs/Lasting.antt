@@ -1,6 +1,6 @@
 -- What holders stored last is there, over every run.
 use mathlib.Core.Path.{_≡_, refl, sym, ap, _∙_}
-use mathlib.Core.Logic.{_≢_}
+use mathlib.Core.Logic.{_≢_, ⊎-elim}
 use mathlib.Core.Bool.{Bool, true, false, cond, _&&_}
 use Prim.Native.Nat.{ℕ, _+_}
 use lib.Dec.{eqb}
@@ -10,14 +10,16 @@ use Rattle.layout.proofs.Bools.{both}
 use Rattle.ledger.specs.Events.{Event, call, store, Library, ours}
 use Rattle.ledger.specs.Ledger.{Held}
 use Rattle.ledger.specs.Runs.{State, after, Run, next}
-use Rattle.ledger.specs.Holders.{wordAfter, numberAfter, StoredLast, just, still}
+use Rattle.ledger.specs.Holders.{wordAfter, numberAfter, StoredLast, just, pictured, still}
 use Rattle.ledger.proofs.Stores.{store-there}
+use Rattle.ledger.proofs.Readings.{read-shows}
 use Rattle.ledger.proofs.Onward.{still-held}
 use Rattle.ledger.proofs.Runs.{event-keeps, run-agrees}
 
 -- the run up to that state
 stored-run : {library : Library} {n : ℕ} {s : State} {b i v : ℕ} → StoredLast library n s b i v → Run library n s
 stored-run (just run b i v allowed) = next run (store b i v) allowed
+stored-run (pictured s text run z b i held) = run
 stored-run (still t event allowed unended uncut other) = next (stored-run t) event allowed
 
 -- an event that does not store to a place leaves its word
@@ -31,14 +33,16 @@ other-word (store c j w) b i old other = go (eqb b c && eqb i j) refl
 
 pub stored-lasts : {n : ℕ} {s : State} {b i v : ℕ} → StoredLast ours n s b i v → Held (s .ledger) b i × (getD (s .words) (b + i) 0 ≡ v)
 stored-lasts {n} (just {s} run b i v allowed) = (allowed .0, store-there n (s .words) (s .ledger) (run-agrees run) b i v (allowed .0))
+stored-lasts (pictured s text run z b i held) = (held, read-shows text (s .words) z (b + i))
 stored-lasts {n} (still {s} {b} {i} {v} t event allowed unended uncut other) =
     let (held, word) = stored-lasts t in
     let (e, l, q, h) = held in
+    let kept = ⊎-elim (λ ended. absurd (unended (rw q at ended))) (λ k. k) (event-keeps n s (run-agrees (stored-run t)) event allowed e l) in
     let then = still-held ours event s b i held unended uncut in
     let (f, m, r, k) = then in (
       then,
       ap (λ (c : ℕ). getD (after ours event s .words) (c + i) 0) (sym r)
-          ∙ event-keeps n s (run-agrees (stored-run t)) event allowed e f l m (r ∙ ap (numberAfter ours event s) (sym q)) i h k
+          ∙ kept f m (r ∙ ap (numberAfter ours event s) (sym q)) i h k
           ∙ other-word event (e .block) i _ (rw q other)
           ∙ ap (λ (c : ℕ). getD (s .words) (c + i) 0) q ∙ word,
     )

@@ -19,8 +19,7 @@ use Rattle.rules.specs.Rooms.{Needed}
 use Rattle.rules.proofs.Copying.{length-copied, copied-other, copied-there}
 use Rattle.rules.proofs.OldBlock.{StillThere}
 use Rattle.rules.proofs.Searches.{BlockAt}
-use Rattle.ledger.specs.Ledger.{Entry, Ledger, enter, strike, Listed, ends}
-use Rattle.ledger.proofs.Blocks.{blocksFrom}
+use Rattle.ledger.specs.Ledger.{Entry, Ledger, enter, strike, blocksFrom, Listed, ends}
 use Rattle.ledger.proofs.Entries.{Laid, enter-listed, listed-enter, listed-struck, laid-listed, laid-order, laid-same, strike-enter}
 use Rattle.ledger.proofs.Agreeing.{Agrees, agrees-laid, block-listed}
 use Rattle.ledger.proofs.Going.{Goes, written-listed, freed-goes, newEntry, granted-lists, granted-laid, granted-fresh, granted-lawful}

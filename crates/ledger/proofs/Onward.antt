@@ -9,7 +9,7 @@ use lib.Dec.{leb, eqb}
 use borrow.Author.Tests.{eqb-true, eqb-false, leb-true, leb-false}
 use Rattle.rules.specs.Answers.{Answer}
 use Rattle.ledger.specs.Events.{Event, Library}
-use Rattle.ledger.specs.Ledger.{Entry, Ledger, enter, strike, Effect, empties, grants, frees, regrants, spares, effect, told, noted, Done}
+use Rattle.ledger.specs.Ledger.{Entry, Ledger, enter, strike, Effect, renews, grants, frees, regrants, spares, effect, told, noted, Done}
 use Rattle.ledger.specs.Ledger.{Listed, Held}
 use Rattle.ledger.specs.Runs.{State, answerTo, after}
 use Rattle.ledger.specs.Holders.{renamed, numberAfter, Ended, Cut}
@@ -30,7 +30,7 @@ module _ (library : Library) (event : Event) (s : State) where
     -- an event that was done
     done-onward : Done answer → (what : Effect) → effect event ≡ what → Onward e (noted what answer (s .ledger)) (renamed what answer (e .block))
     unfolding answer
-    done-onward z empties p = ends (z, inr p)
+    done-onward z (renews blocks) p = ends (z, inr (blocks, p))
     done-onward z grants p = stays (listed-enter (told answer) (s .ledger) e l) refl
     done-onward z (frees c) p = go (eqb (e .block) c) refl
       where

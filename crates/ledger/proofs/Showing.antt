@@ -4,23 +4,24 @@ use mathlib.Core.Path.{_≡_, refl, sym, ap, _∙_}
 use mathlib.Core.Logic.{_≢_, _↔_, Iff·trans}
 use mathlib.Core.Bool.{true, false, true≢false}
 use mathlib.Core.List.{List, [], _∷_, _++_}
-use Prim.Native.Nat.{ℕ, _+_, _-_, _≤_}
+use Prim.Native.Nat.{ℕ, _+_, _-_, _≤_, _<_}
 use native.Mathlib.Omega.{arith}
 use lib.ListN.{length, take, drop}
 use Rattle.layout.specs.Numbers.{controlWords, firstChunk, headerWords, lawful, need}
 use Rattle.layout.specs.Walk.{sound, chunksOf}
 use Rattle.layout.specs.Reasons.{number}
 use Rattle.layout.specs.declared.Reason.{Reason}
-use Rattle.layout.specs.declared.Reason.the-variants.{Length, Damaged, NotABlock, NoRoom, WouldMove}
-use Rattle.layout.proofs.Reasons.{number-positive}
+use Rattle.layout.specs.declared.Reason.the-variants.{Length, Damaged, NotABlock, NoRoom, WouldMove, TextRoom}
 use Rattle.rules.specs.Answers.{Answer, Outcome, success}
 use Rattle.rules.specs.Rules.{taken, freeWords, widest, liveBlocks, freeChunks}
-use Rattle.rules.specs.Calls.{freeOn, sizeOn, viewOn, reportOn}
+use Rattle.rules.specs.Pictures.{pictureLength}
+use Rattle.rules.specs.Calls.{freeOn, sizeOn, viewOn, reportOn, writeOn}
+use Rattle.rules.specs.Causes.{WriteRefused, no-length, unsound, short-text}
 use Rattle.rules.specs.Stands.{NoBlock}
 use Rattle.layout.proofs.Round.{sound-lawful}
 use Rattle.rules.proofs.Gates.{sound-gate}
 use Rattle.rules.proofs.Searches.{block-held}
-use Rattle.rules.proofs.CallCases.{Case, refuses, does, Allots, allots, alloc-case}
+use Rattle.rules.proofs.CallCases.{Case, Allots, allots, alloc-case}
 use Rattle.rules.proofs.Remainder.{cut-numbers}
 use Rattle.rules.proofs.Staying.{kept-numbers}
 use Rattle.rules.proofs.RegrantCases.{Resizes, resizes, Relocates, moves, Regrants, in-place, elsewhere, resize-case, relocate-case, realloc-case}
@@ -28,32 +29,41 @@ use Rattle.rules.proofs.EmptyViews.{view-empty}
 use Rattle.rules.proofs.BlockNumbers.{resize-stays, relocate-moves}
 use Rattle.rules.proofs.Given.{arena-refused}
 use Rattle.rules.proofs.Calls.{start-behaves, alloc-behaves, free-behaves, resize-behaves, relocate-behaves, realloc-behaves, size-behaves}
-use Rattle.rules.proofs.Calls.{report-behaves}
-use Rattle.ledger.specs.Events.{Call, start, alloc, free, resize, relocate, realloc, size, view, report, ours}
+use Rattle.rules.proofs.Calls.{report-behaves, write-behaves, read-behaves}
+use Rattle.rules.proofs.Pictures.{picture-length}
+use Rattle.rules.proofs.PictureCalls.{writes-sound}
+use Rattle.ledger.specs.Events.{Call, start, alloc, free, resize, relocate, realloc, size, view, report, write, read, ours}
 use Rattle.ledger.specs.Ledger.{Entry, Ledger, told, Done, Listed, Unlisted, begins, ends, heldWords}
-use Rattle.ledger.specs.Demands.{LawfulRequest, HasNeed, freeWordsIn, Tells}
+use Rattle.ledger.specs.Demands.{LawfulRequest, HasNeed, RefusedWhen, freeWordsIn, Tells}
 use Rattle.ledger.proofs.Blocks.{blocks-words, blocks-count}
 use Rattle.ledger.proofs.Entries.{listed-at, laid-listed, laid-above}
+use Rattle.ledger.proofs.Readings.{done-does}
 use Rattle.ledger.proofs.Agreeing.{Agrees, chunked-block, agrees-laid, agrees-lawful, listed-chunked, unlisted-block}
 
 -- ---- the reasons that an arena itself gives
 
--- a call that gives one of the first two reasons has an unlawful length, or an arena that is not sound
-gate-refused : (a : List ℕ) (c : Call)
+-- a call that gives one of the first two reasons, and is no reading, has an unlawful length, or an arena that is not
+-- sound
+gate-refused : (a : List ℕ) (c : Call) → ((text : List ℕ) → c ≢ read text)
     → (ours c a .answer .code ≡ number Length → lawful (length a) ≡ false) × (ours c a .answer .code ≡ number Damaged → sound a ≡ false)
-gate-refused a start = (
+gate-refused a start other = (
   λ e. start-behaves a .refused Length .0 e .1,
   λ e. absurd
       (omega (arith, ap number (start-behaves a .refused Damaged .0 e .0))),
 )
-gate-refused a (alloc w) = arena-refused a _ _ _ _ _ (λ why. alloc-behaves a w .refused why .0)
-gate-refused a (free b) = arena-refused a _ _ _ _ _ (λ why. free-behaves a b .refused why .0)
-gate-refused a (resize b w) = arena-refused a _ _ _ _ _ (λ why. resize-behaves a b w .refused why .0)
-gate-refused a (relocate b w) = arena-refused a _ _ _ _ _ (λ why. relocate-behaves a b w .refused why .0)
-gate-refused a (realloc b w) = arena-refused a _ _ _ _ _ (λ why. realloc-behaves a b w .refused why .0)
-gate-refused a (size b) = arena-refused a _ _ _ _ _ (λ why. size-behaves a b .refused why .0)
-gate-refused a (view b) = (λ e. absurd (omega arith), λ e. absurd (omega arith))
-gate-refused a report = arena-refused a _ _ _ _ _ (λ why. report-behaves a .refused why .0)
+gate-refused a (alloc w) other = arena-refused a _ _ _ _ _ (λ why. alloc-behaves a w .refused why .0)
+gate-refused a (free b) other = arena-refused a _ _ _ _ _ (λ why. free-behaves a b .refused why .0)
+gate-refused a (resize b w) other = arena-refused a _ _ _ _ _ (λ why. resize-behaves a b w .refused why .0)
+gate-refused a (relocate b w) other = arena-refused a _ _ _ _ _ (λ why. relocate-behaves a b w .refused why .0)
+gate-refused a (realloc b w) other = arena-refused a _ _ _ _ _ (λ why. realloc-behaves a b w .refused why .0)
+gate-refused a (size b) other = arena-refused a _ _ _ _ _ (λ why. size-behaves a b .refused why .0)
+gate-refused a (view b) other = (λ e. absurd (omega arith), λ e. absurd (omega arith))
+gate-refused a report other = arena-refused a _ _ _ _ _ (λ why. report-behaves a .refused why .0)
+gate-refused a (write text) other = (
+  λ e. elim (write-behaves a text .refused Length .0 e) [ no-length l ↦ l ],
+  λ e. elim (write-behaves a text .refused Damaged .0 e) [ unsound l d ↦ d ],
+)
+gate-refused a (read text) other = absurd (other text refl)
 
 -- a call that would move its block is a resize, and to a number of words that may be asked for
 would-move : (a : List ℕ) (c : Call) → ours c a .answer .code ≡ number WouldMove → (b : ℕ) × (w : ℕ) × (c ≡ resize b w) × LawfulRequest (length a) w
@@ -66,6 +76,8 @@ would-move a (realloc b w) e = absurd (realloc-behaves a b w .refused WouldMove 
 would-move a (size b) e = absurd (size-behaves a b .refused WouldMove .0 e .1)
 would-move a (view b) e = absurd (omega arith)
 would-move a report e = absurd (report-behaves a .refused WouldMove .0 e .1)
+would-move a (write text) e = elim (write-behaves a text .refused WouldMove .0 e) [ ]
+would-move a (read text) e = elim (read-behaves a text .refused WouldMove .0 e) [ ]
 
 -- ---- what is granted
 
@@ -77,8 +89,7 @@ need-taken w s enough = omega (arith, cut-numbers (need w) s enough)
 need-granted : {fields : ℕ} {a : List ℕ} {Refuses : Reason → Type 0} {Does : List ℕ → List ℕ → Type 0} {outcome : Outcome} (w : ℕ)
     → ((values after : List ℕ) → Does values after → HasNeed w (headerWords + told (success values) .granted)) → Case fields a Refuses Does outcome
     → Done (outcome .answer) → HasNeed w (headerWords + told (outcome .answer) .granted)
-need-granted w f (refuses why r) e = absurd (omega (arith, number-positive why))
-need-granted w f (does {values} {after} d) e = f values after d
+need-granted w f case e = f _ _ (done-does case e)
 
 alloc-grants : (a : List ℕ) (w : ℕ) (values after : List ℕ) → Allots a w values after → HasNeed w (headerWords + told (success values) .granted)
 alloc-grants a w values after (allots e r pre s post (same, enough)) = need-taken w s enough
@@ -140,11 +151,28 @@ module _ (n : ℕ) (a : List ℕ) (ledger : Ledger) (agrees : Agrees n a ledger)
   refused-unlisted b refused = Iff·trans refused
       (λ h. unlisted-block n a ledger agrees b .0 (h .1), λ un. (agrees .is-sound, unlisted-block n a ledger agrees b .1 un))
 
+  -- a sound arena's picture is written wherever it has room
+  text-room : (text : List ℕ) → RefusedWhen TextRoom (length text < pictureLength (length a)) (writeOn a text .answer)
+  text-room text =
+      let behaves = write-behaves a text in
+      record {
+        refused = (λ e. short TextRoom (behaves .refused TextRoom .0 e), λ l. behaves .refused TextRoom .1 (lacks l));
+        done = (λ z l. behaves .done .0 z TextRoom (lacks l), λ enough. behaves .done .1 (λ why r. enough (short why r)));
+      }
+    where
+      short : (why : Reason) → WriteRefused a text why → length text < pictureLength (length a)
+      short why (no-length l) = absurd (true≢false (sym (sound-lawful a (agrees .is-sound)) ∙ l))
+      short why (unsound l d) = absurd (true≢false (sym (agrees .is-sound) ∙ d))
+      short why (short-text e l) = omega (arith, picture-length a)
+
+      lacks : length text < pictureLength (length a) → WriteRefused a text TextRoom
+      lacks l = short-text (agrees .is-sound) (omega (arith, picture-length a))
+
   pub tells : Tells ours a ledger
   tells =
       record {
-        never-length = λ c e. true≢false (sym (sound-lawful a (agrees .is-sound)) ∙ gate-refused a c .0 e);
-        never-damaged = λ c e. true≢false (sym (agrees .is-sound) ∙ gate-refused a c .1 e);
+        never-length = λ c other e. true≢false (sym (sound-lawful a (agrees .is-sound)) ∙ gate-refused a c other .0 e);
+        never-damaged = λ c other e. true≢false (sym (agrees .is-sound) ∙ gate-refused a c other .1 e);
         alloc-grants = λ w. need-granted w (alloc-grants a w) (alloc-case a w);
         free-listed = freed;
         resize-grants = λ b w. need-granted w (resize-grants a b w) (resize-case a b w);
@@ -164,4 +192,8 @@ module _ (n : ℕ) (a : List ℕ) (ledger : Ledger) (agrees : Agrees n a ledger)
         view-listed = λ e listed. ap success (viewed e listed);
         report-done = ap (λ (answer : Answer). answer .code) reported;
         live-blocks = rw (reported, agrees .lists) (blocks-count firstChunk (chunksOf a));
+        write-room = text-room;
+        write-length = λ text z.
+            writes-sound a text (agrees .is-sound) (omega (arith, picture-length a, text-room text .done .0 z))
+            ∙ ap (λ (long : ℕ). success (long ∷ [])) (picture-length a);
       }

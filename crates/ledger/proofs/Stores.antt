@@ -13,8 +13,7 @@ use Rattle.layout.specs.Numbers.{firstChunk, headerWords}
 use Rattle.layout.specs.Chunks.{live, total}
 use Rattle.layout.proofs.Payload.{store-inside}
 use Rattle.layout.proofs.Round.{sound-chunks, arena-sound, arena-chunks}
-use Rattle.ledger.specs.Ledger.{Entry, Ledger, Listed, ends, Held}
-use Rattle.ledger.proofs.Blocks.{blocksFrom}
+use Rattle.ledger.specs.Ledger.{Entry, Ledger, blocksFrom, Listed, ends, Held}
 use Rattle.ledger.proofs.Entries.{laid-listed, laid-order}
 use Rattle.ledger.proofs.Agreeing.{Agrees, agrees-laid, listed-chunked}
 

@@ -7,22 +7,26 @@ use mathlib.Core.List.{List, [], _∷_}
 use native.Mathlib.Nat.{add-zero}
 use native.Mathlib.Omega.{arith}
 use lib.Dec.{eqb}
-use lib.ListN.{length, getD, set, replicate}
+use lib.ListN.{length, getD, set, replicate, length-replicate}
 use borrow.Author.Tests.{le-leb}
 use Rattle.layout.specs.Numbers.{controlWords, lawful, greatestRequest, need}
 use Rattle.layout.specs.Chunks.{header, write, written}
 use Rattle.layout.specs.Walk.{meet, walk, walkFrom, walked, sound, chunksOf}
 use Rattle.layout.specs.Reasons.{arenaGate, requestGate}
 use Rattle.rules.specs.Answers.{Answer, Outcome, success}
+use Rattle.rules.specs.Pictures.{pictureOf, pictureLength, Says}
 use Rattle.rules.specs.Spots.{lowest}
 use Rattle.rules.specs.Rules.{joined, copied}
 use Rattle.rules.specs.Calls.{startOn, allocBy, freeOn, regrantBy, sizeOn, reportOn}
-use Rattle.ledger.specs.Events.{Call, start, alloc, free, resize, relocate, realloc, size, view, report, call, store, Library, ours}
+use Rattle.rules.proofs.Pictures.{picture-length}
+use Rattle.rules.proofs.Saying.{said-says, picture-says}
+use Rattle.ledger.specs.Events.{Call, start, alloc, free, resize, relocate, realloc, size, view, report, write as writePicture, read}
+use Rattle.ledger.specs.Events.{call, store, Library, ours}
 use Rattle.ledger.specs.Gaps.{RoomShorter}
-use Rattle.ledger.specs.Ledger.{enter, strike, told, Done, begins, ends}
-use Rattle.ledger.specs.Runs.{Allowed, Run, begun, next}
-use Rattle.ledger.specs.Holders.{just, still}
-use Rattle.ledger.specs.Demands.{Starts, Lengths, Apart, Inside, Keeps, Lasts, Sums, RoomForAlloc, RoomForResize, RoomForRelocate}
+use Rattle.ledger.specs.Ledger.{enter, strike, told, Done, Held, begins, ends}
+use Rattle.ledger.specs.Runs.{State, Allowed, after, Run, begun, arrived, next}
+use Rattle.ledger.specs.Holders.{just, pictured, still}
+use Rattle.ledger.specs.Demands.{Starts, Receives, Lengths, Apart, Inside, Keeps, Lasts, Sums, RoomForAlloc, RoomForResize, RoomForRelocate}
 use Rattle.ledger.specs.Demands.{RoomForRealloc, ShrinksToNeed, freeWordsIn, liveBlocksIn, Known}
 use Rattle.ledger.proofs.Examples.{clash}
 
@@ -127,7 +131,7 @@ answersAlone c a = record { answer = ours c a .answer; words = a }
 -- it does not know its arena: right after the start, the report is refused for damage
 pub answers-alone : Known answersAlone → ⊥
 unfolding reportOn arenaGate sound walked walkFrom walk meet
-answers-alone known = known 6 _ (begun (replicate 6 0) refl refl) .never-damaged report refl
+answers-alone known = known 6 _ (begun (replicate 6 0) refl refl) .never-damaged report (λ text is. clash cc) refl
 
 -- ---- one that keeps a made-up total of free words
 
@@ -270,6 +274,8 @@ withResize other (realloc b w) a = ours (realloc b w) a
 withResize other (size b) a = ours (size b) a
 withResize other (view b) a = ours (view b) a
 withResize other report a = ours report a
+withResize other (writePicture text) a = ours (writePicture text) a
+withResize other (read text) a = ours (read text) a
 
 -- a resize moves the block where it cannot stay
 abbrev pub resizeReallocates : Library
@@ -393,3 +399,67 @@ forgets library zeroes room known lasts =
     ap (λ k. getD (library (size (e .block)) w .words) k 0) (add-zero (e .block)) ∙ zeroes (e .block) w done in
     let five : getD (library (size (e .block)) w .words) (e .block + 0) 0 ≡ 5 = rw done at (lasts 6 _ _ 0 5 last) in
     omega arith
+
+-- ---- one that never reads a picture, one that reads any text, and one that reads nothing
+
+-- in a sound arena of 6 words, block 4 holds a 5
+abbrev fiveHeld : List ℕ
+fiveHeld = 6 ∷ 0 ∷ 4 ∷ 4294967295 ∷ 5 ∷ 0 ∷ []
+
+five-says : Says (pictureOf fiveHeld) fiveHeld
+five-says = picture-says fiveHeld (omega arith) (omega arith)
+
+-- a library that receives pictures reads this one into 6 words that are all zero
+a-reading : (library : Library) → Receives library → Done (library (read (pictureOf fiveHeld)) (replicate 6 0) .answer)
+unfolding sound walked walkFrom walk meet
+a-reading library receives = receives (replicate 6 0) (pictureOf fiveHeld) .1 (fiveHeld, five-says, refl, refl)
+
+-- no reading is ever done, for whatever reasons and whatever it writes
+abbrev pub NeverReads : Library → Type 0
+NeverReads library = (text a : List ℕ) → Done (library (read text) a .answer) → ⊥
+
+-- it does not receive that picture
+pub never-reads : (library : Library) → NeverReads library → Receives library → ⊥
+never-reads library refuses receives = refuses _ _ (a-reading library receives)
+
+-- every reading is done, whatever the text
+abbrev pub ReadsAnything : Library → Type 0
+ReadsAnything library = (text a : List ℕ) → Done (library (read text) a .answer)
+
+-- it receives more than pictures: the empty text is none
+pub reads-anything : (library : Library) → ReadsAnything library → Receives library → ⊥
+reads-anything library reads receives =
+    let (ws, says, long, is-sound) = receives [] [] .0 (reads [] []) in
+    omega (arith, picture-length ws, ap length (says .is))
+
+-- a reading leaves the words as they were, whatever it answers
+abbrev pub ReadsNothing : Library → Type 0
+ReadsNothing library = (text a : List ℕ) → library (read text) a .words ≡ a
+
+-- if it receives pictures, what they show is not there: block 4 holds a 0
+pub reads-nothing : (library : Library) → ReadsNothing library → Receives library → Lasts library → ⊥
+unfolding chunksOf walked walkFrom walk meet
+reads-nothing library nothing receives lasts =
+    let text = pictureOf fiveHeld in
+    let before : State = record { words = replicate 6 0; ledger = [] } in
+    let done = a-reading library receives in
+    let is = said-says text fiveHeld .1 five-says in
+    let held : Held (after library (call (read text)) before .ledger) 4 0 =
+    rw (done, is) (record { block = 4; granted = 2 }, inl refl, refl, omega arith) in
+    let last = pictured before text (arrived text (replicate 6 0) refl done) done 4 0 held in
+    let five : getD (library (read text) (replicate 6 0) .words) 4 0 ≡ 5 = rw is at (lasts 6 _ 4 0 _ last) in
+    let zero : getD (library (read text) (replicate 6 0) .words) 4 0 ≡ 0 = ap (λ (a : List ℕ). getD a 4 0) (nothing text (replicate 6 0)) in
+    omega arith
+
+-- ---- one that never writes a picture
+
+-- no writing is ever done, for whatever reasons and however long the text is
+abbrev pub NeverWrites : Library → Type 0
+NeverWrites library = (text a : List ℕ) → Done (library (writePicture text) a .answer) → ⊥
+
+-- it does not know its arena: a text as long as the picture has room for it
+pub never-writes : (library : Library) → NeverWrites library → Known library → ⊥
+never-writes library refuses known =
+    let long = pictureLength (length (library start (replicate 6 0) .words)) in
+    refuses (replicate long 0) _
+    (known 6 _ (begun (replicate 6 0) refl refl) .write-room (replicate long 0) .done .1 (λ short. omega (arith, length-replicate {A = ℕ} long 0)))

@@ -9,9 +9,11 @@ use lib.ListN.{length, getD, take, drop}
 use Rattle.layout.specs.Numbers.{controlWords, headerWords, leastSplit, lawful, greatestRequest, need}
 use Rattle.layout.specs.Reasons.{number}
 use Rattle.layout.specs.declared.Reason.{Reason}
-use Rattle.layout.specs.declared.Reason.the-variants.{Length, Damaged, NotABlock, NoRoom, WouldMove}
+use Rattle.layout.specs.declared.Reason.the-variants.{Length, Damaged, NotABlock, NoRoom, WouldMove, TextRoom}
+use Rattle.layout.specs.Walk.{sound}
 use Rattle.rules.specs.Answers.{Answer, success}
-use Rattle.ledger.specs.Events.{Call, start, alloc, free, resize, relocate, realloc, size, view, report, Event, Library}
+use Rattle.rules.specs.Pictures.{pictureLength, Says}
+use Rattle.ledger.specs.Events.{Call, start, alloc, free, resize, relocate, realloc, size, view, report, write, read, Event, Library}
 use Rattle.ledger.specs.Ledger.{Entry, Ledger, told, Done, Listed, Unlisted, begins, ends, heldWords}
 use Rattle.ledger.specs.Gaps.{gapFrom, gaps, EachShorter, RoomShorter}
 use Rattle.ledger.specs.Runs.{State, Allowed, after, Run}
@@ -42,6 +44,11 @@ module _ (library : Library) where
   -- an arena of lawful length can be started, whatever its words are
   abbrev pub Starts : Type 0
   Starts = (a : List ℕ) → lawful (length a) ≡ true → Done (library start a .answer)
+
+  -- a text is read, whatever the words are, exactly where it is the picture of a sound arena of as many words
+  abbrev pub Receives : Type 0
+  Receives =
+      (a text : List ℕ) → Done (library (read text) a .answer) ↔ ((ws : List ℕ) × Says text ws × (length ws ≡ length a) × (sound ws ≡ true))
 
   -- an arena keeps its length
   abbrev pub Lengths : Type 0
@@ -130,8 +137,8 @@ module _ (library : Library) where
   -- what the answers tell of an arena in a run: which blocks there are, how long they are, what they hold, whether they
   -- keep their numbers, and which reasons are never given
   pub record Tells (a : List ℕ) (ledger : Ledger) : Type 0 where
-    pub never-length : (c : Call) → library c a .answer .code ≢ number Length
-    pub never-damaged : (c : Call) → library c a .answer .code ≢ number Damaged
+    pub never-length : (c : Call) → ((text : List ℕ) → c ≢ read text) → library c a .answer .code ≢ number Length
+    pub never-damaged : (c : Call) → ((text : List ℕ) → c ≢ read text) → library c a .answer .code ≢ number Damaged
     pub alloc-grants : GrantsNeed alloc a
     pub free-known : NeedsBlock free a ledger
     pub free-listed : (e : Entry) → Listed ledger e → Done (library (free (e .block)) a .answer)
@@ -152,6 +159,9 @@ module _ (library : Library) where
     pub view-unlisted : (b : ℕ) → Unlisted ledger b → library (view b) a .answer ≡ success []
     pub report-done : Done (library report a .answer)
     pub live-blocks : liveBlocksIn (library report a .answer) ≡ length ledger
+    pub write-room : (text : List ℕ) → RefusedWhen TextRoom (length text < pictureLength (length a)) (library (write text) a .answer)
+    pub write-length : (text : List ℕ) → Done (library (write text) a .answer)
+        → library (write text) a .answer ≡ success (pictureLength (length a) ∷ [])
 
   -- the answers tell it in every run
   abbrev pub Known : Type 0

@@ -3,9 +3,9 @@ use Prim.Native.Nat.{ℕ, _+_}
 use mathlib.Core.List.{List, []}
 use lib.ListN.{set}
 use Rattle.rules.specs.Answers.{Outcome, success}
-use Rattle.rules.specs.Calls.{startOn, allocOn, freeOn, resizeOn, relocateOn, reallocOn, sizeOn, viewOn, reportOn}
+use Rattle.rules.specs.Calls.{startOn, allocOn, freeOn, resizeOn, relocateOn, reallocOn, sizeOn, viewOn, reportOn, writeOn, readOn}
 
--- `w` is how many words are asked for, `b` a block's number
+-- `w` is how many words are asked for, `b` a block's number, `text` the bytes of a lent text
 pub data Call : Type 0 where
   start : Call
   alloc : (w : ℕ) → Call
@@ -16,6 +16,8 @@ pub data Call : Type 0 where
   size : (b : ℕ) → Call
   view : (b : ℕ) → Call
   report : Call
+  write : (text : List ℕ) → Call
+  read : (text : List ℕ) → Call
 
 -- a store is of value `v`, at place `i` of block `b`
 pub data Event : Type 0 where
@@ -37,6 +39,8 @@ ours (realloc b w) a = reallocOn a b w
 ours (size b) a = sizeOn a b
 ours (view b) a = record { answer = success (viewOn a b); words = a }
 ours report a = reportOn a
+ours (write text) a = writeOn a text
+ours (read text) a = readOn text a
 
 -- what an event comes to; a store is the holder's own, and is always done
 abbrev pub happens : Library → Event → List ℕ → Outcome

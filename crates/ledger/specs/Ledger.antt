@@ -1,5 +1,5 @@
 -- The ledger: the blocks that are held, written down from events and their answers alone. Whoever keeps it is never
--- shown the arena.
+-- shown the arena; a picture that is read is part of the event.
 use Prim.Native.Nat.{ℕ, _+_, _-_, _<_}
 use mathlib.Core.Path.{_≡_}
 use mathlib.Core.Logic.{_⊎_, _≢_}
@@ -7,9 +7,12 @@ use mathlib.Core.Bool.{cond}
 use mathlib.Core.List.{List, [], _∷_}
 use lib.ListN.{getD}
 use lib.Dec.{leb, eqb}
-use Rattle.layout.specs.Numbers.{headerWords}
+use Rattle.layout.specs.Numbers.{firstChunk, headerWords}
+use Rattle.layout.specs.Chunks.{Chunk, free as freeChunk, live}
+use Rattle.layout.specs.Walk.{chunksOf}
 use Rattle.rules.specs.Answers.{Answer}
-use Rattle.ledger.specs.Events.{start, alloc, free, resize, relocate, realloc, size, view, report, Event, call, store}
+use Rattle.rules.specs.Pictures.{Said, bad, good, said}
+use Rattle.ledger.specs.Events.{start, alloc, free, resize, relocate, realloc, size, view, report, write, read, Event, call, store}
 
 -- a block's number and its granted words
 pub record Entry : Type 0 where
@@ -32,16 +35,35 @@ unfoldable pub strike : ℕ → Ledger → Ledger
 strike b [] = []
 strike b (f ∷ fs) = cond (eqb (f .block) b) (strike b fs) (f ∷ strike b fs)
 
+-- the live chunk of `s` words that starts at word `c`
+abbrev pub entryAt : ℕ → ℕ → Entry
+entryAt c s = record { block = c + headerWords; granted = s - headerWords }
+
+-- the live blocks of `ks`, which begin at word `c`
+abbrev pub blocksFrom : ℕ → List Chunk → Ledger
+blocksFrom c [] = []
+blocksFrom c (freeChunk s ∷ ks) = blocksFrom (c + s) ks
+blocksFrom c (live s ∷ ks) = entryAt c s ∷ blocksFrom (c + s) ks
+
+-- the live blocks of an arena
+abbrev pub blocksOf : List ℕ → Ledger
+blocksOf a = blocksFrom firstChunk (chunksOf a)
+
+-- the live blocks of the arena whose picture a text is
+abbrev pub picturedBlocks : Said → Ledger
+picturedBlocks bad = []
+picturedBlocks (good ws) = blocksOf ws
+
 -- what an event that is done means for the blocks
 pub data Effect : Type 0 where
-  empties : Effect  -- every block ends
+  renews : (blocks : Ledger) → Effect  -- every block ends, and these are new
   grants : Effect  -- the block that is answered is new
   frees : (b : ℕ) → Effect  -- block `b` ends
   regrants : (b : ℕ) → Effect  -- block `b` goes on as the block that is answered
   spares : Effect  -- each block goes on as it is
 
 abbrev pub effect : Event → Effect
-effect (call start) = empties
+effect (call start) = renews []
 effect (call (alloc w)) = grants
 effect (call (free b)) = frees b
 effect (call (resize b w)) = regrants b
@@ -50,6 +72,8 @@ effect (call (realloc b w)) = regrants b
 effect (call (size b)) = spares
 effect (call (view b)) = spares
 effect (call report) = spares
+effect (call (write text)) = spares
+effect (call (read text)) = renews (picturedBlocks (said text))
 effect (store b i v) = spares
 
 -- the block and the granted words that an answer tells (0 where it has no such field)
@@ -58,7 +82,7 @@ told answer = record { block = getD (answer .values) 0 0; granted = getD (answer
 
 -- what an event that is done makes of the ledger
 abbrev pub noted : Effect → Answer → Ledger → Ledger
-noted empties answer ledger = []
+noted (renews blocks) answer ledger = blocks
 noted grants answer ledger = enter (told answer) ledger
 noted (frees b) answer ledger = strike b ledger
 noted (regrants b) answer ledger = enter (told answer) (strike b ledger)

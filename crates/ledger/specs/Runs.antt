@@ -1,4 +1,4 @@
--- Runs: an arena that is started, and then any number of events.
+-- Runs: an arena that is started, or read from a picture, and then any number of events.
 use Prim.Native.Nat.{ℕ, _<_}
 use mathlib.Core.Path.{_≡_}
 use mathlib.Core.Bool.{true}
@@ -6,8 +6,8 @@ use mathlib.Core.List.{List, []}
 use lib.ListN.{length}
 use Rattle.layout.specs.Numbers.{wordValues, lawful}
 use Rattle.rules.specs.Answers.{Answer}
-use Rattle.ledger.specs.Events.{start, Event, call, store, Library, happens}
-use Rattle.ledger.specs.Ledger.{Ledger, ledgerAfter, Held}
+use Rattle.ledger.specs.Events.{start, read, Event, call, store, Library, happens}
+use Rattle.ledger.specs.Ledger.{Ledger, ledgerAfter, Done, Held}
 
 pub record State : Type 0 where
   pub words : List ℕ
@@ -26,7 +26,10 @@ module _ (library : Library) where
   abbrev pub after : Event → State → State
   after event s = record { words = happens library event (s .words) .words; ledger = ledgerAfter event (answerTo event s) (s .ledger) }
 
-  -- a run in an arena of `n` words, up to a state: it begins with any words, started
+  -- a run in an arena of `n` words, up to a state: it begins with any words, started, or with a reading that is done,
+  -- whatever the words were
   pub data Run (n : ℕ) : State → Type 0 where
     begun : (a : List ℕ) → length a ≡ n → lawful n ≡ true → Run n (record { words = library start a .words; ledger = [] })
+    arrived : (text a : List ℕ) → length a ≡ n → Done (library (read text) a .answer)
+        → Run n (after (call (read text)) (record { words = a; ledger = [] }))
     next : {s : State} → Run n s → (event : Event) → Allowed event (s .ledger) → Run n (after event s)

@@ -16,6 +16,7 @@ pub mod ThreeWays
 pub mod Given
 pub mod Keeping
 pub mod Pictures
+pub mod Frames
 pub mod Saying
 pub mod PictureCalls
 pub mod Calls

@@ -106,12 +106,12 @@ picture-standing ws counted fits =
 
 -- ---- whatever the case of the letters
 
-take-upper : (k : ℕ) (bs : List ℕ) → take k (map upper bs) ≡ map upper (take k bs)
+pub take-upper : (k : ℕ) (bs : List ℕ) → take k (map upper bs) ≡ map upper (take k bs)
 take-upper zero bs = refl
 take-upper (suc k) [] = refl
 take-upper (suc k) (b ∷ bs) = ap (λ (l : List ℕ). upper b ∷ l) (take-upper k bs)
 
-drop-upper : (k : ℕ) (bs : List ℕ) → drop k (map upper bs) ≡ map upper (drop k bs)
+pub drop-upper : (k : ℕ) (bs : List ℕ) → drop k (map upper bs) ≡ map upper (drop k bs)
 drop-upper zero bs = refl
 drop-upper (suc k) [] = refl
 drop-upper (suc k) (b ∷ bs) = drop-upper k bs

@@ -5,14 +5,14 @@ use mathlib.Core.Logic.{_↔_}
 use mathlib.Core.Bool.{Bool, true, false, cond, true≢false, and-eq-true-iff}
 use mathlib.Core.List.{List, [], _∷_, map}
 use native.Mathlib.Omega.{arith}
-use lib.ListN.{length, drop}
+use lib.ListN.{length, drop, length-map}
 use lib.Dec.{eqb}
 use borrow.Author.Tests.{eqb-true, eq-eqb}
 use Rattle.layout.specs.Numbers.{wordValues}
 use Rattle.layout.specs.Bounds.{AllBelow}
 use Rattle.digits.specs.Digits.{upper, fourDigitValues}
-use Rattle.rules.specs.Pictures.{framesFor, pictureOf, Says, Said, bad, good, standingFrom, standingCount, standing, same, said}
-use Rattle.rules.proofs.Pictures.{picture-capitals, picture-standing, standing-upper, frames-below, standing-count}
+use Rattle.rules.specs.Pictures.{framesFor, pictureOf, pictureLength, Says, Said, bad, good, standingFrom, standingCount, standing, same, said}
+use Rattle.rules.proofs.Pictures.{picture-length, picture-capitals, picture-standing, standing-upper, frames-below, standing-count}
 
 -- ---- the test whether two texts are the same
 
@@ -67,6 +67,17 @@ module _ (text : List ℕ) where
           true≢false
           (sym (ap (λ (vs : List ℕ). same (map upper text) (pictureOf vs)) (says-standing ws s)
           ∙ ap (λ (bs : List ℕ). same bs (pictureOf ws)) (s .is) ∙ same-itself (pictureOf ws)) ∙ e))
+
+  -- a text of another length than the picture that its first line tells of is bad
+  pub other-length-bad : (length text ≡ pictureLength (standingCount text) → ⊥) → said text ≡ bad
+  other-length-bad n = go (said text) saying
+    where
+      go : (found : Said) → Saying found → found ≡ bad
+      go found (nothing none) = refl
+      go found (says ws s) =
+          let k = standingCount text in
+          let long : length ws ≡ k = ap length (sym (says-standing ws s)) ∙ standing-count (framesFor k) k (drop 7 text) refl in
+          absurd (n (sym (length-map text upper) ∙ ap length (s .is) ∙ picture-length ws ∙ ap pictureLength long))
 
   pub said-says : (ws : List ℕ) → (said text ≡ good ws) ↔ Says text ws
   said-says ws = (λ e. go (said text) saying e, λ s. back (said text) saying s)

@@ -1,9 +1,10 @@
-// Words and the four bytes that spell each, the lowest byte first.
+// Words handed over: as the four bytes that spell each, the lowest first, and as they are.
 ghost use mathlib.Core.Path.{_≡_};
-ghost use Prim.Native.Nat.{_+_, _*_, _<_};
+ghost use Prim.Native.Nat.{_+_, _*_, _≤_, _<_};
 ghost use lib.ListN.{length};
 ghost use lib.Seq.{sets};
 ghost use Rattle.spelling.specs.Words.{wordOf, fourOf, wordsOf, bytesOf};
+ghost use Rattle.spelling.specs.Copies.{Begins};
 
 // The word that four bytes spell.
 fn word(a: u8, b: u8, c: u8, d: u8) -> u32
@@ -46,4 +47,17 @@ pub fn store(words: &[u32], bytes: &mut [u8])
         put_word(bytes, 4 * i, words[i]);
         i += 1;
     }
+}
+
+// Copies the words of `from` to the start of `to`, and answers how many they are.
+pub fn copy(from: &[u32], to: &mut [u32]) -> usize
+    requires { ⌜ length (now from) ≤ length (now to) ⌝ }
+    ensures { λ r. ⌜ Begins (now (to .exit)) r (now (from .entry)) ⌝ }
+{
+    let mut i = 0;
+    while i < from.len() {
+        to[i] = from[i];
+        i += 1;
+    }
+    i
 }

@@ -12,7 +12,8 @@ use Rattle.rules.specs.Calls.{viewOn}
 use Rattle.arena.specs.Views.{Views}
 use Rattle.answers.specs.Padded.{padded}
 use Rattle.answers.specs.declared.Numbers.{Numbers}
-use Rattle.trials.specs.Trials.{unknown, outcomeOf, isView, Settles, Begins, Replies}
+use Rattle.spelling.specs.Copies.{Begins}
+use Rattle.trials.specs.Trials.{unknown, outcomeOf, isView, Settles, Replies}
 
 -- a call gives an answer, and `r` is that answer's numbers
 pub settled : {o : Outcome} {x : Answer} {words : List ℕ} {r : Numbers} → Gives o x words → r ≡ padded x → Settles o r words

@@ -4,12 +4,13 @@ use mathlib.Core.Path.{_≡_}
 use mathlib.Core.Logic.{_≢_}
 use mathlib.Core.Bool.{Bool, cond, _||_}
 use mathlib.Core.List.{List, [], _∷_}
-use lib.ListN.{length, getD, take}
+use lib.ListN.{length, getD}
 use lib.Dec.{eqb}
 use Rattle.layout.specs.declared.Reason.the-variants.{Frame}
 use Rattle.rules.specs.Answers.{Answer, Outcome, success, refusal}
 use Rattle.rules.specs.Calls.{startOn, allocOn, freeOn, resizeOn, relocateOn, reallocOn, reportOn, sizeOn, viewOn}
 use Rattle.answers.specs.Padded.{padded}
+use Rattle.spelling.specs.Copies.{Begins}
 use Rattle.answers.specs.declared.Numbers.{Numbers}
 use Rattle.trials.specs.declared.replies.Reply.{Reply}
 
@@ -38,11 +39,6 @@ pub record Settles (outcome : Outcome) (x : Numbers) (words : List ℕ) : Type 0
   pub leaves : words ≡ outcome .words
 
 -- ---- the calls that hand words back
-
--- the list `l` begins with these words, of which there are `count`
-pub record Begins (l : List ℕ) (count : ℕ) (words : List ℕ) : Type 0 where
-  pub counts : count ≡ length words
-  pub holds : take count l ≡ words
 
 -- the promise of `overwrite`: what view_mut hands back is copied, and the arena keeps its length
 pub record Overwrites (a : List ℕ) (b count : ℕ) (copy after : List ℕ) : Type 0 where

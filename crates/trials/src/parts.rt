@@ -3,20 +3,8 @@ ghost use mathlib.Core.Path.{_≡_};
 ghost use Prim.Native.Nat.{_≤_};
 ghost use lib.ListN.{length, replicate};
 ghost use Rattle.rules.specs.Calls.{viewOn};
-ghost use Rattle.trials.specs.Trials.{Begins, Overwrites};
-
-// Copies the words of `from` to the start of `to`, and answers how many they are.
-fn copy(from: &[u32], to: &mut [u32]) -> usize
-    requires { ⌜ length (now from) ≤ length (now to) ⌝ }
-    ensures { λ r. ⌜ Begins (now (to .exit)) r (now (from .entry)) ⌝ }
-{
-    let mut i = 0;
-    while i < from.len() {
-        to[i] = from[i];
-        i += 1;
-    }
-    i
-}
+ghost use Rattle.spelling.specs.Copies.{Begins};
+ghost use Rattle.trials.specs.Trials.{Overwrites};
 
 // Makes every word of `part` the word `n`.
 fn fill(part: &mut [u32], n: u32)
@@ -34,7 +22,7 @@ pub(crate) fn look(a: &[u32], b: u32, part: &mut [u32]) -> usize
     requires { ⌜ length (now a) ≤ length (now part) ⌝ }
     ensures { λ r. ⌜ Begins (now (part .exit)) r (viewOn (now (a .entry)) b) ⌝ }
 {
-    copy(arena::view(a, b), part)
+    spelling::copy(arena::view(a, b), part)
 }
 
 // Copies the words that view_mut hands back to the start of `part`, answers how many they are, and makes each of them
@@ -45,7 +33,7 @@ pub(crate) fn overwrite(a: &mut [u32], b: u32, n: u32, part: &mut [u32]) -> usiz
     ensures { λ r. ⌜ Overwrites (now (a .entry)) b r (now (part .exit)) (now (a .exit)) ⌝ }
 {
     let block = arena::view_mut(a, b);
-    let count = copy(block, part);
+    let count = spelling::copy(block, part);
     fill(block, n);
     count
 }

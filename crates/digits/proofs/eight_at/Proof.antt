@@ -4,9 +4,6 @@ use Rattle.digits.proofs.Finding.{halves-found}
 use borrow.Author.Needs.{needs}
 use Rattle.digits.proofs.eight_at.Statement.{statement}
 use Rattle.digits.proofs.eight_at.Tie as tie
-use Rattle.digits.proofs.eight_at.Reads as reads
-use Rattle.digits.proofs.eight_at.Lts as lts
-use Rattle.digits.proofs.four_at.Reads as four-at-reads
 
 four-at-requires : tie.Need-four-at-requires
 four-at-requires c κs = search needs

@@ -4,9 +4,6 @@ use Rattle.digits.proofs.Finding.{halves-found}
 use borrow.Author.Needs.{needs}
 use Rattle.digits.proofs.four_at.Statement.{statement}
 use Rattle.digits.proofs.four_at.Tie as tie
-use Rattle.digits.proofs.four_at.Reads as reads
-use Rattle.digits.proofs.four_at.Lts as lts
-use Rattle.digits.proofs.two_at.Reads as two-at-reads
 
 two-at-requires : tie.Need-two-at-requires
 two-at-requires c κs = search needs

@@ -6,9 +6,6 @@ use Rattle.digits.proofs.Putting.{puts-then}
 use borrow.Author.Needs.{needs}
 use Rattle.digits.proofs.put_eight.Statement.{statement}
 use Rattle.digits.proofs.put_eight.Tie as tie
-use Rattle.digits.proofs.put_eight.Reads as reads
-use Rattle.digits.proofs.put_eight.Lts as lts
-use Rattle.digits.proofs.put_four.Reads as put-four-reads
 
 put-four-requires : tie.Need-put-four-requires
 put-four-requires c κs = search needs

@@ -6,9 +6,6 @@ use Rattle.digits.proofs.Finding.{worth-most, two-found}
 use borrow.Author.Needs.{needs}
 use Rattle.digits.proofs.two_at.Statement.{statement}
 use Rattle.digits.proofs.two_at.Tie as tie
-use Rattle.digits.proofs.two_at.Reads as reads
-use Rattle.digits.proofs.two_at.Lts as lts
-use Rattle.digits.proofs.worth.Reads as worth-reads
 
 -- what a byte is worth is at most 16
 first : (c : tie.After-worth) → c .worth .result ≤ 16

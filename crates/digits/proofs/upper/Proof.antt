@@ -6,9 +6,6 @@ use Rattle.digits.proofs.Ranges.{within}
 use borrow.Author.Needs.{needs}
 use Rattle.digits.proofs.upper.Statement.{statement}
 use Rattle.digits.proofs.upper.Tie as tie
-use Rattle.digits.proofs.upper.Reads as reads
-use Rattle.digits.proofs.upper.Lts as lts
-use Rattle.digits.proofs.is_between.Reads as is-between-reads
 
 is-between-requires : tie.Need-is-between-requires
 is-between-requires c κs = search needs

@@ -11,10 +11,6 @@ use Rattle.frames.proofs.Lines.{put-there, line-found}
 use borrow.Author.Needs.{needs}
 use Rattle.frames.proofs.has_line.Statement.{statement}
 use Rattle.frames.proofs.has_line.Tie as tie
-use Rattle.frames.proofs.has_line.Reads as reads
-use Rattle.frames.proofs.has_line.Lts as lts
-use Rattle.frames.proofs.matches.Reads as matches-reads
-use Rattle.frames.proofs.put_line.Reads as put-line-reads
 
 slice-aggregate-put-line : tie.Need-slice-aggregate-put-line
 slice-aggregate-put-line c = search needs

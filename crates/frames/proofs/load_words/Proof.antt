@@ -12,9 +12,6 @@ use borrow.Author.Needs.{needs}
 use Rattle.frames.proofs.Lines.{word-next, no-words-left}
 use Rattle.frames.proofs.load_words.Statement.{statement}
 use Rattle.frames.proofs.load_words.Tie as tie
-use Rattle.frames.proofs.load_words.Reads as reads
-use Rattle.frames.proofs.load_words.Lts as lts
-use Rattle.digits.proofs.eight_at.Reads as eight-at-reads
 
 abbrev Inv-loop : tie.InvT-loop
 Inv-loop text at words₀ i₀ words i = Filling words₀ words i (wordsIn (length words₀ - i) (drop (at + i * 8) text)) (wordsIn (length words₀) (drop at text))

@@ -11,9 +11,6 @@ use borrow.Author.Needs.{needs}
 use Rattle.frames.proofs.Lines.{same-next, differ-here, same-ended}
 use Rattle.frames.proofs.matches.Statement.{statement}
 use Rattle.frames.proofs.matches.Tie as tie
-use Rattle.frames.proofs.matches.Reads as reads
-use Rattle.frames.proofs.matches.Lts as lts
-use Rattle.digits.proofs.upper.Reads as upper-reads
 
 abbrev Inv-loop : tie.InvT-loop
 Inv-loop part expected i₀ i = (i ≤ length expected) × (same (map upper part) expected ≡ same (map upper (drop i part)) (drop i expected))

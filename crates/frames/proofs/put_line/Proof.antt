@@ -9,11 +9,6 @@ use Rattle.frames.proofs.Lines.{line-put}
 use borrow.Author.Needs.{needs}
 use Rattle.frames.proofs.put_line.Statement.{statement}
 use Rattle.frames.proofs.put_line.Tie as tie
-use Rattle.frames.proofs.put_line.Reads as reads
-use Rattle.frames.proofs.put_line.Lts as lts
-use Rattle.digits.proofs.put_four.Reads as put-four-reads
-use Rattle.digits.proofs.put_two.Reads as put-two-reads
-use Rattle.frames.proofs.put_words.Reads as put-words-reads
 
 put-two-requires : tie.Need-put-two-requires
 put-two-requires c κs = search needs

@@ -11,9 +11,6 @@ use Rattle.rules.proofs.Pictures.{words-length}
 use borrow.Author.Needs.{needs}
 use Rattle.frames.proofs.put_words.Statement.{statement}
 use Rattle.frames.proofs.put_words.Tie as tie
-use Rattle.frames.proofs.put_words.Reads as reads
-use Rattle.frames.proofs.put_words.Lts as lts
-use Rattle.digits.proofs.put_eight.Reads as put-eight-reads
 
 abbrev Inv-loop : tie.InvT-loop
 Inv-loop out₀ at words i₀ out i = (i ≤ length words) × (out ≡ sets out₀ at (inDigits eightDigits (take i words)))

@@ -1,4 +1,4 @@
--- `trials::parts::copy` meets its contract. The loop's invariant: the words copied so far, and those of `from` that are
+-- `spelling::copy` meets its contract. The loop's invariant: the words copied so far, and those of `from` that are
 -- left, are all of `from`.
 -- The measure is how many words are left.
 use Prim.Native.Nat.{_-_, _≤_}
@@ -6,9 +6,9 @@ use mathlib.Core.Path.{refl}
 use native.Mathlib.Omega.{arith}
 use lib.ListN.{length, drop, drop-of-length-le}
 use borrow.Author.Needs.{needs}
 use Rattle.spelling.proofs.Filling.{Filling, copied-on, filled-up}
-use Rattle.trials.proofs.parts.copy.Statement.{statement}
-use Rattle.trials.proofs.parts.copy.Tie as tie
+use Rattle.spelling.proofs.copy.Statement.{statement}
+use Rattle.spelling.proofs.copy.Tie as tie
 
 abbrev Inv-loop : tie.InvT-loop
 Inv-loop from to₀ i₀ to i = (i ≤ length from) × Filling to₀ to i (drop i from) from

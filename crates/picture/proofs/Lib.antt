@@ -1,0 +1,5 @@
+-- The laws of writing and reading a picture.
+pub mod Parts
+pub mod LineByLine
+pub mod FrameByFrame
+pub mod Decoding
