@@ -4,11 +4,9 @@
 // A reply is the words: code, four fields, how many words were handed back, those words as they were handed back, and
 // the arena's words after the call.
 use layout::wide;
-use libc::STDIN_FILENO;
-use libc::STDOUT_FILENO;
 use trials::replies;
 use trials::replies::Reply;
-ghost use Prim.Native.Nat.{_*_, _≤_};
+ghost use Prim.Native.Nat.{_≤_};
 ghost use lib.ListN.{length};
 ghost use Rattle.cases.specs.Buffers.{Buffers};
 
@@ -18,42 +16,19 @@ const MOST_WORDS: usize = layout::GREATEST_LENGTH + 16;
 // The bytes that spell them.
 const MOST_BYTES: usize = 4 * MOST_WORDS;
 
-// Reads as many words as `words` has, by way of `bytes`; false where the input is cut short.
-fn read_words(words: &mut [u32], bytes: &mut [u8]) -> bool
-    requires { ⌜ 4 * length (now words) ≤ length (now bytes) ⌝ }
-{
-    let count = 4 * words.len();
-    let spelled = &mut bytes[..count];
-    if io::read_full(STDIN_FILENO, spelled) < count {
-        return false;
-    }
-    spelling::load(spelled, words);
-    true
-}
-
-// Writes the words, by way of `bytes`; false where they cannot be written.
-fn write_words(words: &[u32], bytes: &mut [u8]) -> bool
-    requires { ⌜ 4 * length (now words) ≤ length (now bytes) ⌝ }
-{
-    let count = 4 * words.len();
-    let spelled = &mut bytes[..count];
-    spelling::store(words, spelled);
-    io::write_all(STDOUT_FILENO, spelled)
-}
-
 // Writes the reply to a case: its numbers, the part that was handed back, the arena.
 fn write_reply(reply: Reply, part: &[u32], a: &[u32], bytes: &mut [u8]) -> bool
     requires { ⌜ Buffers (now a) (now part) (now bytes) × (reply .count ≤ length (now part)) ⌝ }
 {
     let numbers = replies::numbers(reply);
-    if !write_words(&numbers, bytes) {
+    if !wire::write_words(&numbers, bytes) {
         return false;
     }
     let count = reply.count;
-    if !write_words(&part[..count], bytes) {
+    if !wire::write_words(&part[..count], bytes) {
         return false;
     }
-    write_words(a, bytes)
+    wire::write_words(a, bytes)
 }
 
 // Reads the arena of a case, makes its call and writes the reply; false where the arena is cut short or the reply
@@ -61,7 +36,7 @@ fn write_reply(reply: Reply, part: &[u32], a: &[u32], bytes: &mut [u8]) -> bool
 fn run_call(call: u32, b: u32, n: u32, a: &mut [u32], part: &mut [u32], bytes: &mut [u8]) -> bool
     requires { ⌜ Buffers (now a) (now part) (now bytes) ⌝ }
 {
-    if !read_words(a, bytes) {
+    if !wire::read_words(a, bytes) {
         return false;
     }
     let reply = replies::reply_to(call, b, n, a, part);
@@ -74,7 +49,7 @@ fn run_case(space: &mut [u32], part: &mut [u32], bytes: &mut [u8]) -> bool
     requires { ⌜ Buffers (now space) (now part) (now bytes) ⌝ }
 {
     let mut head = [0u32; 4];
-    if !read_words(&mut head, bytes) {
+    if !wire::read_words(&mut head, bytes) {
         return false;
     }
     let count = wide(head[3]);

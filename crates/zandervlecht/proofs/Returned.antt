@@ -4,7 +4,7 @@ use mathlib.Core.Path.{_≡_, refl, sym, ap, _∙_}
 use mathlib.Core.List.{List, [], _∷_}
 use lib.ListN.{getD}
 use Rattle.rules.specs.Answers.{Answer, Outcome}
-use Rattle.answers.specs.Readings.{finishNumbers, grantedNumbers, sizedNumbers, reportedNumbers}
+use Rattle.answers.specs.Readings.{finishNumbers, grantedNumbers, sizedNumbers, reportedNumbers, writtenNumbers}
 use Rattle.answers.specs.Padded.{padded}
 use Rattle.answers.specs.Determined.{Determined}
 use Rattle.answers.specs.declared.Finish.{Finish}
@@ -15,6 +15,8 @@ use Rattle.answers.specs.declared.Sized.{Sized}
 use Rattle.answers.specs.declared.Sized.the-variants.{Words, Refused as NotSized}
 use Rattle.answers.specs.declared.Reported.{Reported}
 use Rattle.answers.specs.declared.Reported.the-variants.{Counts, Refused as NotReported}
+use Rattle.answers.specs.declared.Written.{Written}
+use Rattle.answers.specs.declared.Written.the-variants.{Bytes, Refused as NotWritten}
 use Rattle.zandervlecht.specs.Returned.{returned}
 
 -- ---- the answers, by their numbers
@@ -37,6 +39,11 @@ pub reported-returned : (r : Reported)
     returned (x .code) (getD (x .fields) 0 0 ∷ getD (x .fields) 1 0 ∷ getD (x .fields) 2 0 ∷ getD (x .fields) 3 0 ∷ []) ≡ reportedNumbers r
 reported-returned (Counts freeWords largest liveBlocks freeChunks) = refl
 reported-returned (NotReported why) = refl
+
+pub written-returned : (r : Written)
+    → let x = padded (writtenNumbers r) in returned (x .code) (getD (x .fields) 0 0 ∷ []) ≡ writtenNumbers r
+written-returned (Bytes bytes) = refl
+written-returned (NotWritten why) = refl
 
 -- ---- a contract leaves no choice
 

@@ -3,13 +3,18 @@
 // answers.
 use answers::Finish;
 use answers::Granted;
+use answers::Numbers;
 use answers::Reported;
 use answers::Sized;
+use answers::Written;
 ghost use mathlib.Core.Path.{_≡_};
-ghost use mathlib.Core.List.{[]};
+ghost use mathlib.Core.List.{[], _∷_};
+ghost use lib.ListN.{getD};
 ghost use Rattle.rules.specs.Answers.{Gives};
-ghost use Rattle.rules.specs.Calls.{startOn, allocOn, freeOn, resizeOn, relocateOn, reallocOn, sizeOn, reportOn};
-ghost use Rattle.answers.specs.Readings.{finishNumbers, grantedNumbers, sizedNumbers, reportedNumbers};
+ghost use Rattle.rules.specs.Calls.{startOn, allocOn, freeOn, resizeOn, relocateOn, reallocOn, sizeOn, reportOn, readOn};
+ghost use Rattle.answers.specs.Readings.{finishNumbers, grantedNumbers, sizedNumbers, reportedNumbers, writtenNumbers};
+ghost use Rattle.picture.specs.Writing.{Writes};
+ghost use Rattle.desk.specs.Checks.{gateNumber, bytesGate};
 ghost use Rattle.zandervlecht.specs.Returned.{returned};
 
 // Makes the whole arena one free chunk.
@@ -76,7 +81,31 @@ pub extern "C" fn zv_report(a: &[u32], answer: &mut [u32; 4]) -> u32
     tell_reported(arena::report(a), answer)
 }
 
-// What start and free tell: the code alone.
+// Writes the picture of the arena to the start of the text, and answers how many bytes it has.
+#[no_mangle]
+pub extern "C" fn zv_write(a: &[u32], text: &mut [u8], answer: &mut [u32; 1]) -> u32
+    ensures { λ r. ⌜ Writes (now (a .entry)) (now (text .entry)) (returned r (now (answer .exit))) (now (text .exit)) ⌝ }
+{
+    tell_written(picture::write(a, text), answer)
+}
+
+// Makes the arena the words that a picture shows.
+#[no_mangle]
+pub extern "C" fn zv_read(text: &[u8], a: &mut [u32]) -> u32
+    ensures { λ r. ⌜ Gives (readOn (now (text .entry)) (now (a .entry))) (returned r []) (now (a .exit)) ⌝ }
+{
+    tell_finish(picture::read(text, a))
+}
+
+// Checks the arena that bytes spell, four to a word, the lowest first: 0, 1 or 2.
+#[no_mangle]
+pub extern "C" fn zv_check(spelled: &[u8]) -> u32
+    ensures { λ r. ⌜ r ≡ gateNumber (bytesGate (now (spelled .entry))) ⌝ }
+{
+    desk::check(spelled)
+}
+
+// What start, free and the reading of a picture tell: the code alone.
 fn tell_finish(finish: Finish) -> u32
     ensures { λ r. ⌜ returned r [] ≡ finishNumbers finish ⌝ }
 {
@@ -99,10 +128,23 @@ fn tell_granted(granted: Granted, answer: &mut [u32; 2]) -> u32
 fn tell_sized(sized: Sized, answer: &mut [u32; 1]) -> u32
     ensures { λ r. ⌜ returned r (now (answer .exit)) ≡ sizedNumbers sized ⌝ }
 {
-    let numbers = answers::sized_numbers(sized);
+    tell_first(answers::sized_numbers(sized), answer)
+}
+
+// The bytes of a picture go into the lent array.
+fn tell_written(written: Written, answer: &mut [u32; 1]) -> u32
+    ensures { λ r. ⌜ returned r (now (answer .exit)) ≡ writtenNumbers written ⌝ }
+{
+    tell_first(answers::written_numbers(written), answer)
+}
+
+// The first field goes into the lent array, which has room for one; the code is handed back.
+fn tell_first(numbers: Numbers, answer: &mut [u32; 1]) -> u32
+    ensures { λ r. ⌜ returned r (now (answer .exit)) ≡ returned (numbers .code) (getD (numbers .fields) 0 0 ∷ []) ⌝ }
+{
     let fields = numbers.fields;
-    let words = fields[0];
-    *answer = [words];
+    let first = fields[0];
+    *answer = [first];
     numbers.code
 }
 

@@ -1,17 +1,24 @@
--- `tell_sized` meets its contract: the field stands in the array.
-use borrow.Author.Needs.{needs}
+-- `tell_sized` meets its contract: the first field is the one.
+use mathlib.Core.Path.{_∙_}
 use Rattle.zandervlecht.proofs.Returned.{sized-returned}
+use borrow.Author.Needs.{needs}
 use Rattle.zandervlecht.proofs.tell_sized.Statement.{statement}
 use Rattle.zandervlecht.proofs.tell_sized.Tie as tie
+use Rattle.zandervlecht.proofs.tell_sized.Reads as reads
+use Rattle.zandervlecht.proofs.tell_sized.Lts as lts
+use Rattle.answers.proofs.sized_numbers.Reads as sized-numbers-reads
+use Rattle.zandervlecht.proofs.tell_first.Reads as tell-first-reads
 
 sized-numbers-requires : tie.Need-sized-numbers-requires
 sized-numbers-requires c κs = search needs
 
-array-read-words : tie.Need-array-read-words
-array-read-words c = search needs
+tell-first-requires : tie.Need-tell-first-requires
+tell-first-requires c κs = search needs
 
 returns : tie.Need-returns
-returns c = rw (c .before .before .sized-numbers .ensures) (sized-returned (c .before .before .before .args .sized))
+returns c =
+    let d = c .before .before in
+    c .tell-first .ensures ∙ rw (d .sized-numbers .ensures) (sized-returned (d .before .args .sized))
 
 pub tell-sized-spec : {M : Type 1} → statement M
-tell-sized-spec = tie.close (tie.spec sized-numbers-requires array-read-words returns)
+tell-sized-spec = tie.close (tie.spec sized-numbers-requires tell-first-requires returns)

@@ -1,9 +1,9 @@
--- `cases::read_words` is safe: the bytes that are lent are as many as spell the words.
+-- `wire::read_words` is safe: the bytes that are lent are as many as spell the words.
 use native.Mathlib.Omega.{arith}
 use lib.ListN.{length-take}
 use borrow.Author.Needs.{needs}
-use Rattle.cases.proofs.read_words.Statement.{statement}
-use Rattle.cases.proofs.read_words.Tie as tie
+use Rattle.wire.proofs.read_words.Statement.{statement}
+use Rattle.wire.proofs.read_words.Tie as tie
 
 mul-count : tie.Need-mul-count
 mul-count c = search needs

@@ -1,0 +1,45 @@
+-- `picture_cases::main` is safe: the buffers are as long as cases need them. Their lengths are told by a law, and not
+-- counted.
+use Prim.Native.Nat.{ℕ, _*_, _≤_}
+use mathlib.Core.Path.{sym}
+use native.Mathlib.Omega.{arith}
+use lib.ListN.{replicate, length-replicate}
+use Rattle.picture_cases.specs.Rooms.{Rooms}
+use borrow.Author.Needs.{needs}
+use Rattle.picture_cases.proofs.main.Statement.{statement}
+use Rattle.picture_cases.proofs.main.Tie as tie
+use Rattle.picture_cases.proofs.main.Reads as reads
+use Rattle.picture_cases.proofs.main.Lts as lts
+use Rattle.picture_cases.proofs.run_cases.Reads as run-cases-reads
+
+-- the words that the arena's buffer has
+abbrev mostWords : ℕ
+mostWords = 66000
+
+fits : (words bytes : ℕ) → 4 * words ≤ bytes → 4 * 3 ≤ bytes → Rooms (replicate words 0) (replicate bytes 0)
+fits words bytes s n = record { spells = simp length-replicate s; numbers = simp length-replicate n }
+
+slice-aggregate-run-cases : tie.Need-slice-aggregate-run-cases
+slice-aggregate-run-cases c = sym (length-replicate {A = ℕ} 600000 0)
+
+slice-aggregate-run-cases-2 : tie.Need-slice-aggregate-run-cases-2
+slice-aggregate-run-cases-2 c = sym (length-replicate {A = ℕ} mostWords 0)
+
+slice-aggregate-run-cases-3 : tie.Need-slice-aggregate-run-cases-3
+slice-aggregate-run-cases-3 c = sym (length-replicate {A = ℕ} (4 * mostWords) 0)
+
+run-cases-requires : tie.Need-run-cases-requires
+run-cases-requires c κs = fits mostWords (4 * mostWords) (omega arith) (omega arith)
+
+returns : tie.Need-returns
+returns c = search needs
+
+pub main-spec : {M : Type 1} → statement M
+main-spec =
+    tie.close
+    (tie.spec
+    slice-aggregate-run-cases
+    slice-aggregate-run-cases-2
+    slice-aggregate-run-cases-3
+    run-cases-requires
+    returns)

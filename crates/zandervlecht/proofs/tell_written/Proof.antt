@@ -1,0 +1,24 @@
+-- `tell_written` meets its contract: the first field is the one.
+use mathlib.Core.Path.{_∙_}
+use Rattle.zandervlecht.proofs.Returned.{written-returned}
+use borrow.Author.Needs.{needs}
+use Rattle.zandervlecht.proofs.tell_written.Statement.{statement}
+use Rattle.zandervlecht.proofs.tell_written.Tie as tie
+use Rattle.zandervlecht.proofs.tell_written.Reads as reads
+use Rattle.zandervlecht.proofs.tell_written.Lts as lts
+use Rattle.answers.proofs.written_numbers.Reads as written-numbers-reads
+use Rattle.zandervlecht.proofs.tell_first.Reads as tell-first-reads
+
+written-numbers-requires : tie.Need-written-numbers-requires
+written-numbers-requires c κs = search needs
+
+tell-first-requires : tie.Need-tell-first-requires
+tell-first-requires c κs = search needs
+
+returns : tie.Need-returns
+returns c =
+    let d = c .before .before in
+    c .tell-first .ensures ∙ rw (d .written-numbers .ensures) (written-returned (d .before .args .written))
+
+pub tell-written-spec : {M : Type 1} → statement M
+tell-written-spec = tie.close (tie.spec written-numbers-requires tell-first-requires returns)
