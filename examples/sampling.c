@@ -27,6 +27,7 @@ struct buffer {
 static const char *const reasons[] = {
     [ZV_LENGTH] = "Length", [ZV_DAMAGED] = "Damaged", [ZV_NOT_A_BLOCK] = "NotABlock", [ZV_ZERO] = "Zero",
     [ZV_TOO_LARGE] = "TooLarge", [ZV_NO_ROOM] = "NoRoom", [ZV_FRAME] = "Frame", [ZV_WOULD_MOVE] = "WouldMove",
+    [ZV_TEXT_ROOM] = "TextRoom",
 };
 
 /* Whether a call was done: every code comes here, and of a refusal this tells the reason. */

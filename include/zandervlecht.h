@@ -6,22 +6,29 @@
  * costs in time and in stack is on the page docs/COST.md.
  *
  * What a call does. It is done exactly as the rules say, and returns ZV_DONE; or it returns the reason why it says no,
- * and then not one word of the arena has changed and every field of the answer is 0. A call takes any number, and an
- * arena of any length that holds any words, damaged ones included.
+ * and then not one word of the arena and not one byte of the text has changed, and every field of the answer is 0. A
+ * call takes any number, an arena of any length that holds any words, damaged ones included, and a text of any length
+ * that holds any bytes.
  *
  * What the caller must see to, since a C function cannot:
  *   - arena points to that many words, aligned as uint32_t is, and is no null pointer, even where words is 0;
- *   - answer points to as many words as the brackets say, none of which is a word of the arena;
- *   - nobody else reads or writes these words during the call.
+ *   - text and spelled point to that many bytes, and are no null pointers, even where bytes is 0;
+ *   - answer points to as many words as the brackets say;
+ *   - arena, text and answer share no memory;
+ *   - nobody else reads or writes what they point to during the call.
  *
- * Who owns what. Arena and answer are the caller's. The library keeps nothing from one call to the next and has no
- * memory of its own: all that it knows is in the arena. So there can be several arenas, and one that was copied as a
- * whole is as good as the first.
+ * Who owns what. Arena, text and answer are the caller's. The library keeps nothing from one call to the next and has
+ * no memory of its own: all that it knows is in the arena. So there can be several arenas, and one that was copied as a
+ * whole, or read from its picture, is as good as the first.
  *
  * A block is named by a number: the word of the arena at which it begins. Its words are arena + block up to, but not
  * with, arena + block + granted, where granted is what zv_size answers; they belong to whoever asked for the block,
- * from the grant until it is freed or granted anew. All other words of the arena are the library's: to store there
- * damages the arena, and every call but zv_start then says so.
+ * from the grant until it is freed or granted anew, or zv_start or zv_read make the whole arena anew. All other words
+ * of the arena are the library's: to store there damages the arena, and every call on it but these two then says so.
+ *
+ * A picture is an arena as text, in lines of hexadecimal digits, each ended by LF; docs/BOARD.md shows one. The first
+ * line has the number of words, and each other line eight of them, the last what is left. A line takes seven bytes and,
+ * for each of its words, eight more.
  */
 #ifndef ZANDERVLECHT_H
 #define ZANDERVLECHT_H
@@ -37,11 +44,11 @@ extern "C" {
 #define ZV_LEAST_WORDS 6
 #define ZV_GREATEST_WORDS 16384
 
-/* What a call returns. Where more than one reason applies, the lowest number is given. */
+/* What a call returns. Where more than one reason applies, ZV_FRAME is given or, without it, the lowest number. */
 enum zv_code {
     /* The call was done. */
     ZV_DONE = 0,
-    /* The number of words is odd, or below ZV_LEAST_WORDS, or above ZV_GREATEST_WORDS. */
+    /* The number of words is odd, or below ZV_LEAST_WORDS, or above ZV_GREATEST_WORDS, or not that of the picture. */
     ZV_LENGTH = 1,
     /* The words are no sound arena: never started, or stored to where nobody may. */
     ZV_DAMAGED = 2,
@@ -53,10 +60,12 @@ enum zv_code {
     ZV_TOO_LARGE = 5,
     /* No free chunk is long enough for the request. */
     ZV_NO_ROOM = 6,
-    /* A request line cannot be read: the line program says so, and none of these calls. */
+    /* A line cannot be read: zv_read says so of a picture, the line program of a request, and no other call. */
     ZV_FRAME = 7,
     /* The block cannot stay where it is: zv_resize says so, and no other call. */
-    ZV_WOULD_MOVE = 8
+    ZV_WOULD_MOVE = 8,
+    /* The text is too short for the picture: zv_write says so, and no other call. */
+    ZV_TEXT_ROOM = 11
 };
 
 /* The fields of the answer of zv_alloc, zv_resize, zv_relocate and zv_realloc. */
@@ -102,6 +111,21 @@ uint32_t zv_size(const uint32_t *arena, size_t words, uint32_t b, uint32_t answe
 
 /* Answers the free words, the largest request, the live blocks and the free chunks. */
 uint32_t zv_report(const uint32_t *arena, size_t words, uint32_t answer[4]);
+
+/* Writes the arena's picture to the start of the text, and answers its length in bytes. The rest of the text stays. */
+uint32_t zv_write(const uint32_t *arena, size_t words, uint8_t *text, size_t bytes, uint32_t answer[1]);
+
+/*
+ * Reads a picture, which has to be the whole text and to show as many words as the arena has: these are then the
+ * arena's. What it held before does not matter; ZV_DAMAGED is said of the picture's words.
+ */
+uint32_t zv_read(const uint8_t *text, size_t bytes, uint32_t *arena, size_t words);
+
+/*
+ * Says whether these bytes spell a sound arena, four to a word, the low byte first. Returns ZV_DONE, ZV_DAMAGED or
+ * ZV_LENGTH, the last also where the bytes make no whole number of words.
+ */
+uint32_t zv_check(const uint8_t *spelled, size_t bytes);
 
 #ifdef __cplusplus
 }

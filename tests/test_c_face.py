@@ -1,9 +1,10 @@
-"""Holds the calls for C to the model, through a C program over the header, and the example to what it has to print."""
+"""Holds the calls for C to the model, through C programs over the header, and the example to what it has to print."""
 
 import os
 
 import test_call_rows
 import test_damaged_arenas
+import test_pictures
 from support import c_programs, driver, programs
 from support.comparing import run_lines
 
@@ -21,16 +22,20 @@ def compare_example(root):
     return expected.count(b"\n")
 
 
+def build(root, name):
+    """Builds a program of the tests from its source, and gives the words that start it."""
+    return c_programs.build(name, "c99", os.path.join(root, "tests", "support", name + ".c"), root)
+
+
 def compare(chosen):
-    """The example, then the cases and the rows of two other drivers; the last line has what these say."""
-    source = os.path.join(chosen.root, "tests", "support", "c_cases.c")
+    """The example, then the cases and the rows of three other drivers; the last line has what these say."""
     try:
-        chosen.cases = c_programs.build("c_cases", "c99", source, chosen.root)
+        chosen.cases, chosen.picture_cases = build(chosen.root, "c_cases"), build(chosen.root, "c_pictures")
     except c_programs.NotHere as told:
         return f"nothing was compared{c_programs.skipped([str(told)])}"
     lines = compare_example(chosen.root)
-    calls, rows = test_damaged_arenas.compare(chosen), test_call_rows.compare(chosen)
-    return f"{calls}; {rows}; the example printed its {lines} lines"
+    told = [each.compare(chosen) for each in (test_damaged_arenas, test_call_rows, test_pictures)]
+    return "; ".join([*told, f"the example printed its {lines} lines"])
 
 
 if __name__ == "__main__":

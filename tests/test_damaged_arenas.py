@@ -10,7 +10,6 @@ from support.pupil import way
 CALLS = 150000
 AT_ONCE = 4000
 BATCHES = 10
-EDGES = [6, 8, 16380, 16382, 16383, 16384, 16385, 16386, 16400]
 BIG = [0, 1, 2, 65536, 65540, 2**31 - 1, 2**31, 2**32 - 4, 2**32 - 3, 2**32 - 2, 2**32 - 1]
 
 # Numbers of no call, some of which are like a call's in their lowest bits.
@@ -38,25 +37,6 @@ GAPS = [(place, much) for place in ("right below", "right above", "elsewhere") f
 
 # And how many words it copies, by the bits of that number: from 2 words to 1,024 and more.
 COPIED = [("words copied", bits) for bits in range(2, 12)]
-
-
-def length_for(random, number):
-    """Every length from 0 to 95 in turn, the lawful ones more often; now and then a longer one, up to 16,400."""
-    if number % 200 == 77:
-        return random.choice(EDGES + [2 * random.randrange(40, 8193)])
-    if number % 4 == 0:
-        return number // 4 % 96
-    return 2 * random.randrange(3, 200 if number % 4 == 1 else 48)
-
-
-def arena_for(random, number):
-    """An arena that is sound, spoiled, or of any words; a length that no arena can have gets words of any kind."""
-    length = length_for(random, number)
-    lawful = length % 2 == 0 and model.LEAST_ARENA <= length <= model.LONGEST_ARENA
-    kind = random.random()
-    if lawful and kind < 0.9:
-        return arenas.sound_arena(random, length) if kind < 0.55 else arenas.spoiled_arena(random, length)
-    return arenas.any_arena(random, length)
 
 
 def block_for(random, arena):
@@ -91,7 +71,7 @@ def asked_for(random, arena):
 
 def cases_for(random, number):
     """A call with its numbers and its arena, or three calls together."""
-    arena = arena_for(random, number)
+    arena = arenas.arena_for(random, number)
     call = random.choice([cases.START, cases.REPORT, cases.SIZE, cases.VIEW, cases.VIEW_MUT, 0]
                          + [cases.ALLOC, cases.FREE] * 3 + [cases.REALLOC] * 6)
     if call == 0:
@@ -202,8 +182,7 @@ def unfinished(random, number):
     """Bytes after the last case that are no case: nothing, a case cut short, or one longer than is allowed."""
     whole = cases.case_bytes(cases_for(random, 12)[0])
     too_long = [cases.packed([cases.REPORT, 0, 0, length]) for length in (16401, 2**30, 2**31, 2**32 - 1)]
-    kinds = [b"", b"\1", whole[:15], whole[:16], whole[:-1], whole[:random.randrange(16, len(whole))]]
-    kinds += [start + bytes(4 * 16401) + whole for start in too_long]
+    kinds = cases.cut_short(random, whole, 16) + [start + bytes(4 * 16401) + whole for start in too_long]
     return kinds[number % len(kinds)]
 
 

@@ -1,10 +1,8 @@
 """Holds the programs and the model to the rows of document 01, whose values are written out here."""
 
-import os
-
 from support import cases, driver, lines, model, programs
 from support.cases import Case
-from support.comparing import compare_answers, compare_replies, run_lines, run_rows
+from support.comparing import compare_own_cases, compare_replies, run_lines, run_rows
 
 MARK = model.LIVE_MARK
 
@@ -35,20 +33,12 @@ SIX_WORDS = "010006 0100 020003 020500000000 020002 020000040002 020003 02050000
 THE_MOVE = "010020 0100 020002 0200001E0002 020002 0200001A0002 04001A0006 040000120006 05 05000012000C00020002"
 
 
-def file_of(crate, name):
-    """What a program's own input or output file holds."""
-    with open(os.path.join(programs.ROOT, "crates", crate, name), "rb") as file:
-        return file.read()
-
-
 def check_own_files():
     """The programs' own input and output, which the gate runs besides: the whole run, and cases with true answers."""
     text, expected = line_rows(WHOLE_RUN)
-    if (file_of("board", "stdin"), file_of("board", "stdout")) != (text, expected):
+    if programs.own_files("board") != (text, expected):
         raise driver.Difference("the own files of board are not the whole run")
-    asked = cases.cases_in(file_of("cases", "stdin"))
-    compare_answers(asked, list(map(cases.answer_to, asked)), file_of("cases", "stdout"))
-    return len(asked)
+    return compare_own_cases("cases", cases)
 
 
 def line_rows(table):

@@ -1,17 +1,21 @@
 """Shows that the comparers complain, and the drivers of names and of long runs: each has to see what is wrong.
 
-The other drivers are tried by test_teeth_rows.py, test_teeth_arenas.py and test_teeth_c.py.
+The other drivers are tried by test_teeth_rows.py, test_teeth_arenas.py, test_teeth_pictures.py and test_teeth_c.py.
 """
 
 import glob
 import os
 
-from support import cases, driver, lines, model, programs, spoiled_c, spoiled_headers, spoiled_pages, spoiling, teeth
+from support import cases, driver, lines, model, picture_cases, pictures, programs, spoiling, teeth
+from support import spoiled_c, spoiled_desk, spoiled_headers, spoiled_pages
 from support.comparing import compare_answers, compare_replies, compare_together
 
 LINES = b"010020\n020005\n020001\n05\n03001A\n0Z\n"
 SOUND = [12, 6, 4, 4294967295, 77, 78, 6, 0, 79, 80, 81, 82]
 CASES = [cases.Case(cases.ALLOC, 0, 2, SOUND), cases.Case(cases.VIEW, 4, 0, SOUND), cases.Case(cases.FREE, 4, 0, SOUND)]
+PICTURE = [picture_cases.Case(picture_cases.WRITE, bytes(range(125)), SOUND),
+           picture_cases.Case(picture_cases.READ, pictures.picture_of(SOUND), [5] * len(SOUND)),
+           picture_cases.Case(picture_cases.CHECK, cases.packed(SOUND), [])]
 BETWEEN_LIVE = [16, 2, 6, 0, 71, 72, 73, 74, 4, 4294967295, 75, 76, 4, 4294967295, 77, 78]
 
 
@@ -75,15 +79,21 @@ def wrong_together():
     yield "a resize that would move what is too large", three, [refused, too_large, too_large]
 
 
+def judged_answers(form, asked):
+    """Whether each wrong output for these cases of a form is seen, and the true one taken."""
+    answers = [form.answer_to(case) for case in asked]
+    true = b"".join(map(form.reply_bytes, answers))
+    for what, wrong in wrong_answers(true):
+        yield what, complains(compare_answers, asked, answers, wrong, form)
+    yield "the true answers", not complains(compare_answers, asked, answers, true, form)
+
+
 def check_comparers():
     """Each wrong output must be seen, and the true ones taken; gives how many were tried."""
     replies = lines.output_for(LINES)
-    answers = [cases.answer_to(case) for case in CASES]
-    written = b"".join(map(cases.reply_bytes, answers))
     tried = [(what, complains(compare_replies, LINES, replies, wrong)) for what, wrong in wrong_replies(replies)]
-    tried += [(what, complains(compare_answers, CASES, answers, wrong)) for what, wrong in wrong_answers(written)]
     tried += [("the true replies", not complains(compare_replies, LINES, replies, replies))]
-    tried += [("the true answers", not complains(compare_answers, CASES, answers, written))]
+    tried += [*judged_answers(cases, CASES), *judged_answers(picture_cases, PICTURE)]
     tried += [(what, complains(compare_together, three, b"".join(wrong))) for what, three, wrong in wrong_together()]
     for three, true in (together(4, 3, SOUND), together(10, 3, BETWEEN_LIVE)):
         tried += [("the true replies together", not complains(compare_together, three, b"".join(true)))]
@@ -97,8 +107,8 @@ def check_comparers():
 def check_all_tried():
     """Each driver is tried by a row of faults, or on spoiled copies, but for those that try the others."""
     named = {os.path.basename(path)[:-len(".py")] for path in glob.glob(os.path.join(programs.TESTS, "test_*.py"))}
-    tried = {trial.driver for trial in teeth.ROWS + teeth.LINES + teeth.ARENAS}
-    tried |= {spoiled.DRIVER for spoiled in (spoiled_pages, spoiled_headers, spoiled_c)}
+    tried = {trial.driver for trial in teeth.ROWS + teeth.LINES + teeth.ARENAS + teeth.PICTURES}
+    tried |= {spoiled.DRIVER for spoiled in (spoiled_pages, spoiled_headers, spoiled_c, spoiled_desk)}
     untried = sorted(name for name in named - tried if not name.startswith("test_teeth"))
     if untried:
         raise driver.Difference(f"nothing tries whether these complain: {untried}")

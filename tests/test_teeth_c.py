@@ -1,10 +1,10 @@
-"""Shows that the drivers of the header and of the calls for C complain: each has to see every spoiled copy."""
+"""Shows that the drivers of the header, the calls for C and the desk tool complain: each has to see spoiled copies."""
 
-from support import c_programs, driver, spoiled_c, spoiled_headers
+from support import c_programs, driver, spoiled_c, spoiled_desk, spoiled_headers
 from support.spoiling import check_driver
 
-# So many calls are enough to see each fault of a program.
-FEW_CALLS = "300"
+# So many calls, or files, are enough to see each fault of a program.
+FEW = {spoiled_c: "300", spoiled_desk: "4"}
 
 # The folders that these drivers do not look at.
 UNSEEN = ["proofs", "must-fail"]
@@ -29,8 +29,9 @@ def compare(chosen):
     headers = check_driver(spoiled_headers.DRIVER, spoiled_headers.SPOILED + compiled, without=UNSEEN)
     told = f"all {headers} spoiled headers were seen"
     if "c99" in here:
-        words = ["--seed", str(chosen.seed), "--count", FEW_CALLS]
-        told += f", and all {check_driver(spoiled_c.DRIVER, spoiled_c.SPOILED, words, UNSEEN)} spoiled C programs"
+        tried = [check_driver(spoiled.DRIVER, spoiled.SPOILED, ["--seed", str(chosen.seed), "--count", few], UNSEEN)
+                 for spoiled, few in FEW.items()]
+        told += f", and all {sum(tried)} spoiled C programs"
     return told + c_programs.skipped(missing.values())
 
 

@@ -2,13 +2,14 @@
 
 from collections import namedtuple
 
-from .model import LIVE_MARK, LEAST_CHUNK, FIRST_CHUNK, LONGEST_ARENA
+from .model import LIVE_MARK, LEAST_ARENA, LEAST_CHUNK, FIRST_CHUNK, LONGEST_ARENA
 
 # An arena's words and its chunks, each with start, size and whether it is live.
 Arena = namedtuple("Arena", "words chunks")
 Piece = namedtuple("Piece", "start size live")
 
 HUGE = [2**31, 2**31 + 4, 2**32 - 4, 2**32 - 2, 2**32 - 1, 65536, 65540, 2**30]
+EDGES = [6, 8, 16380, 16382, 16383, 16384, 16385, 16386, 16400]
 
 
 def some_words(random, count, length):
@@ -179,6 +180,24 @@ def spoiled_arena(random, length):
     for spoil in sorted(chosen, key=lambda spoil: spoil not in ANEW):
         spoil(random, arena)
     return arena
+
+
+def arena_of_length(random, length):
+    """An arena that is sound, spoiled, or of any words; a length that no arena can have gets words of any kind."""
+    lawful = length % 2 == 0 and LEAST_ARENA <= length <= LONGEST_ARENA
+    kind = random.random()
+    if lawful and kind < 0.9:
+        return sound_arena(random, length) if kind < 0.55 else spoiled_arena(random, length)
+    return any_arena(random, length)
+
+
+def arena_for(random, number):
+    """Such an arena of every length from 0 to 95 in turn, lawful ones more often; some are longer, up to 16,400."""
+    if number % 200 == 77:
+        return arena_of_length(random, random.choice(EDGES + [2 * random.randrange(40, 8193)]))
+    if number % 4 == 0:
+        return arena_of_length(random, number // 4 % 96)
+    return arena_of_length(random, 2 * random.randrange(3, 200 if number % 4 == 1 else 48))
 
 
 def full_arena(every_second_free):

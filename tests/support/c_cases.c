@@ -1,20 +1,14 @@
 /*
  * The calls for C on any arena, for the tests: it speaks as the program cases does (cases.py says how). Its words are
- * the machine's own, on x86-64 the low byte first. It ends where a case is cut short or too long.
- *
- * Around each arena and each answer lie guard words. Where a call changes one, the program says so and ends with
- * status 1. With -DGUARD_WORDS=0 there are none, so that a checker such as valgrind sees a step outside.
+ * the machine's own, on x86-64 the low byte first. It ends where a case is cut short or too long. Around each arena and
+ * each answer lie guard bytes (rooms.h).
  */
+#define PROGRAM "c_cases"
+
 #include <stdbool.h>
-#include <stdio.h>
-#include <stdlib.h>
 #include <string.h>
 
-#include "zandervlecht.h"
-
-#ifndef GUARD_WORDS
-#define GUARD_WORDS 16
-#endif
+#include "rooms.h"
 
 /* What is done wrong on purpose, for the tests to see, with such as -DFAULT=SWAPPED_FIELDS. */
 enum fault { NONE, SWAPPED_FIELDS, FIELD_OF_REFUSAL, BEFORE_ANSWER, BEHIND_ANSWER, BEFORE_ARENA, BEHIND_ARENA };
@@ -34,47 +28,6 @@ struct question {
 struct reply {
     uint32_t code, fields[FIELDS], part_words;
 };
-
-static const size_t guard_words = GUARD_WORDS;
-
-/* Ends the program with a complaint. */
-static void give_up(const char *complaint, const char *what)
-{
-    fprintf(stderr, "c_cases: %s%s\n", complaint, what);
-    exit(EXIT_FAILURE);
-}
-
-/* The word that lies so many words from the beginning of fresh room. */
-static uint32_t fresh_word(size_t at)
-{
-    return (uint32_t)(0xA5A50000 + at);
-}
-
-/* Fresh room for so many words, with guard words before and behind them. */
-static uint32_t *fresh_room(size_t words)
-{
-    size_t all = guard_words + words + guard_words;
-    uint32_t *room = malloc((all > 0 ? all : 1) * sizeof *room);
-    if (room == NULL)
-        give_up("there is no memory for ", "a case");
-    for (size_t at = 0; at < all; at++)
-        room[at] = fresh_word(at);
-    return room + guard_words;
-}
-
-/* Looks at the guard words around these words, and gives the room back. */
-static void end_room(const char *what, uint32_t *words, size_t count)
-{
-    uint32_t *room = words - guard_words;
-    for (size_t at = 0; at < guard_words; at++) {
-        size_t behind = guard_words + count + at;
-        if (room[at] != fresh_word(at))
-            give_up("a call changed a word before ", what);
-        if (room[behind] != fresh_word(behind))
-            give_up("a call changed a word behind ", what);
-    }
-    free(room);
-}
 
 /* How many fields the header says that the answer of a call has; a view asks for the size. */
 static size_t field_count(uint32_t call)
@@ -132,7 +85,7 @@ static struct reply reply_to(const struct question *asked, uint32_t *arena)
 {
     struct reply told = {0};
     size_t count = field_count(asked->call);
-    uint32_t *fields = fresh_room(count);
+    uint32_t *fields = fresh_room(count * sizeof *fields);
     uint32_t code = made_with_fault(asked, arena, fields);
     if (asked->call == VIEW || asked->call == VIEW_MUT) {
         told.part_words = code == ZV_DONE ? fields[0] : 0;
@@ -140,15 +93,8 @@ static struct reply reply_to(const struct question *asked, uint32_t *arena)
         told.code = code;
         memcpy(told.fields, fields, count * sizeof *fields);
     }
-    end_room("the answer", fields, count);
+    end_room("the answer", fields, count * sizeof *fields);
     return told;
-}
-
-/* Writes so many words. */
-static void write_words(const void *words, size_t count)
-{
-    if (fwrite(words, sizeof(uint32_t), count, stdout) != count)
-        give_up("a reply cannot be written", "");
 }
 
 /* Runs one case; false where no whole case is there. */
@@ -157,18 +103,19 @@ static bool run_case(void)
     struct question asked;
     if (fread(&asked, sizeof asked, 1, stdin) != 1 || asked.words > LONGEST_CASE)
         return false;
-    uint32_t *arena = fresh_room(asked.words);
-    bool whole = fread(arena, sizeof *arena, asked.words, stdin) == asked.words;
+    size_t bytes = asked.words * sizeof(uint32_t);
+    uint32_t *arena = fresh_room(bytes);
+    bool whole = fread(arena, 1, bytes, stdin) == bytes;
     if (whole) {
         struct reply told = reply_to(&asked, arena);
         uint32_t *part = told.part_words > 0 ? arena + asked.b : arena;
-        write_words(&told, sizeof told / sizeof(uint32_t));
-        write_words(part, told.part_words);
+        write_bytes(&told, sizeof told);
+        write_bytes(part, told.part_words * sizeof *part);
         for (size_t at = 0; asked.call == VIEW_MUT && at < told.part_words; at++)
             part[at] = asked.n;
-        write_words(arena, asked.words);
+        write_bytes(arena, bytes);
     }
-    end_room("the arena", arena, asked.words);
+    end_room("the arena", arena, bytes);
     return whole;
 }
 
@@ -176,7 +123,6 @@ int main(void)
 {
     while (run_case())
         continue;
-    if (fflush(stdout) != 0)
-        give_up("the replies cannot be written", "");
+    end_writing();
     return EXIT_SUCCESS;
 }

@@ -15,9 +15,9 @@ EXPORT = re.compile(r'#\[no_mangle\]\npub extern "C" fn (\w+)\((.*?)\)(?: -> (\w
 # A lent slice or, with a number, a lent array.
 LENT = re.compile(r"&(mut )?\[(\w+)(?:; (\d+))?\]")
 
-# The types of the code in C, and what the header calls the words of a lent slice and how many they are.
-C_TYPES = {"u32": "uint32_t"}
-SLICE_NAMES = {"a": ("arena", "words")}
+# The types of the code in C, and what the header calls a lent slice and how many words or bytes it has.
+C_TYPES = {"u32": "uint32_t", "u8": "uint8_t"}
+SLICE_NAMES = {"a": ("arena", "words"), "text": ("text", "bytes"), "spelled": ("spelled", "bytes")}
 
 # The constants of the header and those of the code.
 CONSTANTS = {"ZV_LEAST_WORDS": "LEAST_LENGTH", "ZV_GREATEST_WORDS": "GREATEST_LENGTH"}
@@ -29,8 +29,9 @@ COMMENT = re.compile(r"/\*(.*?)\*/", re.DOTALL)
 LINKAGE = re.compile(r'extern "C" \{(.*)\}', re.DOTALL)
 ENUM = re.compile(r"enum (\w+) \{ (.*?),? \}")
 
-# A comment and the name before which it stands.
+# A comment and the name before which it stands, and the star that begins a line of a long one.
 COMMENTED = re.compile(r"/\*((?:(?!\*/).)*)\*/\s*(?:enum |uint32_t )?(\w+)", re.DOTALL)
+STAR = re.compile(r"^ \*", re.MULTILINE)
 
 ONE_SENTENCE = re.compile(r"[A-Z][^.]*\.")
 SENTENCES = re.compile(r"[A-Z].*\.")
@@ -67,13 +68,13 @@ def upper(name):
 
 
 def c_parameters(parameter):
-    """What a parameter of the code is in C: a lent slice is two, a pointer and a number of words."""
+    """What a parameter of the code is in C: a lent slice is two, a pointer and how many words or bytes it points to."""
     name, kind = parameter.split(": ")
     lent = LENT.fullmatch(kind)
     if lent is None:
         return [f"{C_TYPES.get(kind, kind)} {name}"]
-    mutable, word, count = lent.groups()
-    kind = ("" if mutable else "const ") + C_TYPES.get(word, word)
+    mutable, unit, count = lent.groups()
+    kind = ("" if mutable else "const ") + C_TYPES.get(unit, unit)
     if count:
         return [f"{kind} {name}[{count}]"]
     pointer, number = SLICE_NAMES.get(name, (name, f"{name}_words"))
@@ -147,7 +148,7 @@ def name_of(declaration):
 
 def said_before(text):
     """What the comment before each name says."""
-    return {name: one_line(said) for said, name in COMMENTED.findall(text)}
+    return {name: one_line(STAR.sub("", said)) for said, name in COMMENTED.findall(text)}
 
 
 # What is wrong.

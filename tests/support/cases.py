@@ -8,6 +8,7 @@ import struct
 from collections import namedtuple
 
 from . import model
+from .telling import differences
 
 START, ALLOC, FREE, REALLOC, REPORT, SIZE, VIEW, VIEW_MUT, RESIZE, RELOCATE = range(1, 11)
 NAMES = ["?", "start", "alloc", "free", "realloc", "report", "size", "view", "view_mut", "resize", "relocate"]
@@ -88,6 +89,11 @@ def cases_in(text):
     return found
 
 
+def cut_short(random, whole, head):
+    """Bytes that are no case: nothing, or a whole case that is cut before, in, or behind its first `head` bytes."""
+    return [b"", b"\1", whole[:head - 1], whole[:head], whole[:-1], whole[:random.randrange(head, len(whole))]]
+
+
 def reply_bytes(answer):
     """A reply as the program writes it."""
     fields = list(answer.fields) + [0] * (FIELDS - len(answer.fields))
@@ -97,3 +103,25 @@ def reply_bytes(answer):
 def name_of(call):
     """The call's name, for messages."""
     return NAMES[call] if call in CALLS else f"call number {call}"
+
+
+def told_of(case):
+    """A case for messages; its words only where they are few."""
+    words = case.words if len(case.words) <= 100 else "as in the input"
+    return f"{name_of(case.call)} b={case.block} n={case.asked} on {len(case.words)} words ({words})"
+
+
+def difference_in_reply(answer, reply):
+    """Says in which part a reply is not the expected one."""
+    expected = reply_bytes(answer)
+    if len(reply) < len(expected):
+        return f"expected {len(expected)} bytes of reply, got {len(reply)}"
+    want = struct.unpack(f"<{len(expected) // 4}I", expected)
+    have = struct.unpack(f"<{len(expected) // 4}I", reply)
+    top = 2 + FIELDS
+    if want[:top] != have[:top]:
+        return f"code, fields and length of the part: expected {want[:top]}, got {have[:top]}"
+    arena = top + len(answer.part)
+    if want[top:arena] != have[top:arena]:
+        return "in the part handed back: " + differences("word", want[top:arena], have[top:arena])
+    return "in the arena afterwards: " + differences("word", want[arena:], have[arena:])

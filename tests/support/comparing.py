@@ -4,11 +4,7 @@ import struct
 
 from . import cases, lines, model, programs
 from .driver import Difference
-
-
-def shown(content, most=80):
-    """Bytes for a message, cut where they are long."""
-    return repr(content) if len(content) <= most else f"{content[:most]!r}... ({len(content)} bytes)"
+from .telling import shown
 
 
 def compare_replies(text, expected, got):
@@ -26,45 +22,23 @@ def compare_replies(text, expected, got):
     raise Difference(f"line {same + 1}, {line}: expected {want}, got {have}", text, expected)
 
 
-def difference_in_words(expected, got):
-    """Says which of the words after a call are not the expected ones."""
-    wrong = [at for at in range(len(expected)) if got[at] != expected[at]]
-    told = ", ".join(f"word {at} expected {expected[at]} got {got[at]}" for at in wrong[:8])
-    return told + (f" and {len(wrong) - 8} more" if len(wrong) > 8 else "")
+def compare_answers(asked, answers, got, form=cases):
+    """Complains about the first of these cases whose reply is not the expected one, or of too many replies.
 
-
-def difference_in_reply(answer, reply):
-    """Says in which part a reply is not the expected one."""
-    expected = cases.reply_bytes(answer)
-    if len(reply) < len(expected):
-        return f"expected {len(expected)} bytes of reply, got {len(reply)}"
-    want = struct.unpack(f"<{len(expected) // 4}I", expected)
-    have = struct.unpack(f"<{len(expected) // 4}I", reply)
-    top = 2 + cases.FIELDS
-    if want[:top] != have[:top]:
-        return f"code, fields and length of the part: expected {want[:top]}, got {have[:top]}"
-    arena = top + len(answer.part)
-    if want[top:arena] != have[top:arena]:
-        return "in the part handed back: " + difference_in_words(want[top:arena], have[top:arena])
-    return "in the arena afterwards: " + difference_in_words(want[arena:], have[arena:])
-
-
-def compare_answers(asked, answers, got):
-    """Complains about the first of these cases whose reply is not the expected one, or of too many replies."""
+    `form` is the module that says how these cases and their replies are written, and tells of them.
+    """
     begin = 0
     for number, (case, answer) in enumerate(zip(asked, answers)):
-        expected = cases.reply_bytes(answer)
+        expected = form.reply_bytes(answer)
         reply = got[begin:begin + len(expected)]
         if reply != expected:
-            text = b"".join(map(cases.case_bytes, asked[:number + 1]))
-            replies = b"".join(map(cases.reply_bytes, answers[:number + 1]))
-            words = case.words if len(case.words) <= 100 else "as in the input"
-            raise Difference(
-                f"case {number + 1}, {cases.name_of(case.call)} b={case.block} n={case.asked} on {len(case.words)}"
-                f" words ({words}): {difference_in_reply(answer, reply)}", text, replies)
+            text = b"".join(map(form.case_bytes, asked[:number + 1]))
+            replies = b"".join(map(form.reply_bytes, answers[:number + 1]))
+            told = form.difference_in_reply(answer, reply)
+            raise Difference(f"case {number + 1}, {form.told_of(case)}: {told}", text, replies)
         begin += len(expected)
     if begin != len(got):
-        text = b"".join(map(cases.case_bytes, asked))
+        text = b"".join(map(form.case_bytes, asked))
         raise Difference(f"{len(got) - begin} bytes more than the replies to {len(asked)} cases", text)
 
 
@@ -113,23 +87,36 @@ def run_lines(command, text, pieces=None, expected=None):
     compare_replies(text, wanted, got)
 
 
-def run_cases(command, asked, answers, rest=b""):
-    """Runs the program on cases, followed by bytes that are no case, and compares its replies with the answers."""
-    text = b"".join(map(cases.case_bytes, asked)) + rest
+def run_cases(command, asked, answers, rest=b"", form=cases):
+    """Runs the program on cases, followed by bytes that are no case, and compares its replies with the answers.
+
+    Gives the replies.
+    """
+    text = b"".join(map(form.case_bytes, asked)) + rest
     try:
         got = programs.output_of(command, [text])
     except programs.ProgramFailed as failure:
         raise Difference(f"{failure} (after {len(failure.output)} bytes of replies)", text) from failure
-    compare_answers(asked, answers, got)
-    compare_together(asked, got)
+    compare_answers(asked, answers, got, form)
+    if form is cases:
+        compare_together(asked, got)
+    return got
 
 
-def run_rows(command, rows):
+def run_rows(command, rows, form=cases):
     """Holds the model and the program to rows of case and answer, and gives how many they are."""
     asked, answers = zip(*rows)
     try:
-        compare_answers(asked, answers, b"".join(cases.reply_bytes(cases.answer_to(case)) for case in asked))
+        compare_answers(asked, answers, b"".join(form.reply_bytes(form.answer_to(case)) for case in asked), form)
     except Difference as found:
         raise Difference(f"the model, not the program: {found}", found.text, found.expected) from found
-    run_cases(command, asked, answers)
+    run_cases(command, asked, answers, form=form)
     return len(rows)
+
+
+def compare_own_cases(name, form):
+    """Holds what a program has to write for cases of its own to the model, and gives how many they are."""
+    given, written = programs.own_files(name)
+    asked = form.cases_in(given)
+    compare_answers(asked, list(map(form.answer_to, asked)), written, form)
+    return len(asked)

@@ -17,6 +17,7 @@ LEAST_ARENA = 6
 LONGEST_ARENA = 16384
 
 DONE, LENGTH, DAMAGED, NOT_A_BLOCK, ZERO, TOO_LARGE, NO_ROOM, FRAME, WOULD_MOVE = range(9)
+TEXT_ROOM = 11
 
 # What a call on some words gives: the code, the numbers answered, the words of a view, and all words afterwards.
 Answer = namedtuple("Answer", "code fields part words")

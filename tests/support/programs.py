@@ -29,6 +29,15 @@ def command_for(name, other=None):
     return ["bash", os.path.join(ROOT, "tools", "program"), name]
 
 
+def own_files(name):
+    """The input of a program's own that the gate runs it on, and the output that it then has to write."""
+    contents = []
+    for file_name in ("stdin", "stdout"):
+        with open(os.path.join(ROOT, "crates", name, file_name), "rb") as file:
+            contents.append(file.read())
+    return tuple(contents)
+
+
 class Running:
     """A program at work: a thread drains what it writes while the driver hands it input piece by piece."""
 

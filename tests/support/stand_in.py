@@ -1,12 +1,13 @@
 """The model in the place of a program, with one fault or none.
 
-In the folder of the tests: python3 -m support.stand_in board|cases [FAULT].
+In the folder of the tests: python3 -m support.stand_in board|cases|picture_cases [FAULT].
 """
 
 import struct
 import sys
 
-from . import cases, lines, model
+from . import cases, lines, model, picture_cases
+from .picture_faults import PICTURE_FAULTS
 
 # The reply, counted from 0, that a fault of replies spoils.
 SPOILED_REPLY = 3
@@ -286,12 +287,19 @@ def cases_replies():
         yield cases.reply_bytes(cases.answer_to(cases.Case(call, block, asked, words)))
 
 
+def picture_replies():
+    """Replies to the cases on pictures of standard input."""
+    for case in picture_cases.cases_in(sys.stdin.buffer.read()):
+        yield picture_cases.reply_bytes(picture_cases.answer_to(case))
+
+
 def main(name, fault=None):
     """Answers as the program would, but for the fault."""
-    break_rule = {**RULE_FAULTS, **REPORT_FAULTS}.get(fault, lambda: None)
-    break_rule()
+    rule_faults = PICTURE_FAULTS if name == "picture_cases" else {**RULE_FAULTS, **REPORT_FAULTS}
+    rule_faults.get(fault, lambda: None)()
     held_back = b""
-    for number, reply in enumerate(board_replies(fault) if name == "board" else cases_replies()):
+    replies = {"board": lambda: board_replies(fault), "cases": cases_replies, "picture_cases": picture_replies}
+    for number, reply in enumerate(replies[name]()):
         spoil = fault in REPLY_FAULTS and number == SPOILED_REPLY
         written = REPLY_FAULTS[fault](reply) if spoil else reply
         if fault == LATE:

@@ -9,6 +9,7 @@ from collections import namedtuple
 
 from . import programs
 from .driver import Difference
+from .picture_faults import PICTURE_FAULTS
 from .stand_in import LATE
 
 # What a stand-in can do wrong in a resize, a move, or the realloc that is made of them.
@@ -24,7 +25,7 @@ Trial = namedtuple("Trial", "driver count program faults")
 # The driver of the document's rows runs both programs.
 BOTH = "test_document_rows"
 
-# The trials, by what the drivers compare: rows written by hand, long runs of lines, and single calls on many arenas.
+# The trials, by what the drivers compare: rows by hand, long runs of lines, single calls on many arenas, pictures.
 ROWS = [
     Trial(BOTH, 1, "board", ["digit", "missing", "extra", "tail", *ANOTHER_COUNT]),
     Trial(BOTH, 1, "cases", ["word", "missing", "extra", *ANOTHER_COUNT]),
@@ -42,6 +43,7 @@ ARENAS = [
     Trial("test_damaged_arenas", 3000, "cases", ["word", "missing", "extra", "believe", "clear", "manylinks",
                                                  *ANOTHER_COUNT, *ANOTHER_LENGTH]),
 ]
+PICTURES = [Trial("test_pictures", 300, "picture_cases", ["word", "missing", "extra", *PICTURE_FAULTS])]
 
 
 def sees_difference(trial, fault, seed, folder):

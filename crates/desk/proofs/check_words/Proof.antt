@@ -1,5 +1,5 @@
 -- `check_words` meets its contract: the bytes are no arena's by their number, or the words that they spell are checked.
-use Prim.Native.Nat.{ℕ, _/_, _≤_}
+use Prim.Native.Nat.{ℕ, _/_, _%_, _≤_}
 use mathlib.Core.Path.{_≡_, sym, _∙_}
 use native.Mathlib.Omega.{arith}
 use lib.ListN.{length, take, replicate, length-replicate}
@@ -28,14 +28,18 @@ lent d =
     let zero : ℕ = 0 in
     length-take-le _ (replicate greatestLength zero) (omega (arith, most d, length-replicate greatestLength zero))
 
+-- the bytes are a multiple of four
+fours : (d : tie.Else1) → length (d .before .before .args .spelled .now) % 4 ≡ 0
+fours d = omega arith
+
 returns : tie.Need-returns
-returns c = sym (odd-bytes _ (c .if1 .taken))
+returns c = sym (odd-bytes _ (λ e. c .if1 .taken (omega arith)))
 
 is-lawful-requires : tie.Need-is-lawful-requires
 is-lawful-requires c κs = search needs
 
 returns-2 : tie.Need-returns-2
-returns-2 c = sym (unlawful-words _ (c .before .before .if1 .left) (sym (c .before .is-lawful .ensures) ∙ not-true _ (c .if2 .taken)))
+returns-2 c = sym (unlawful-words _ (fours (c .before .before)) (sym (c .before .is-lawful .ensures) ∙ not-true _ (c .if2 .taken)))
 
 array-borrow-prefix-words : tie.Need-array-borrow-prefix-words
 array-borrow-prefix-words c = most c
@@ -44,12 +48,12 @@ slice-aggregate-load-and-check : tie.Need-slice-aggregate-load-and-check
 slice-aggregate-load-and-check c = sym (lent (c .before))
 
 load-and-check-requires : tie.Need-load-and-check-requires
-load-and-check-requires c κs = omega (arith, lent (c .before), c .before .before .before .if1 .left)
+load-and-check-requires c κs = omega (arith, lent (c .before), fours (c .before .before .before))
 
 returns-3 : tie.Need-returns-3
 returns-3 c =
     let d = c .before .before .before in
-    c .before .load-and-check .ensures ∙ sym (whole-words _ (d .before .before .if1 .left))
+    c .before .load-and-check .ensures ∙ sym (whole-words _ (fours (d .before .before)))
 
 pub check-words-spec : {M : Type 1} → statement M
 check-words-spec =

@@ -1,0 +1,12 @@
+"""Shows that the driver of pictures complains: it has to see every fault of a program."""
+
+from support import driver, teeth
+
+
+def compare(chosen):
+    """Every faulty program; the last line counts them."""
+    return f"all {teeth.check_drivers(teeth.PICTURES, chosen.seed)} faulty programs were seen"
+
+
+if __name__ == "__main__":
+    driver.finish("test_teeth_pictures", compare, driver.options(__doc__, 1, named=()))
