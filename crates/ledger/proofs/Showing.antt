@@ -21,7 +21,7 @@ use Rattle.rules.specs.Stands.{NoBlock}
 use Rattle.layout.proofs.Round.{sound-lawful}
 use Rattle.rules.proofs.Gates.{sound-gate}
 use Rattle.rules.proofs.Searches.{block-held}
-use Rattle.rules.proofs.CallCases.{Case, Allots, allots, alloc-case}
+use Rattle.rules.proofs.CallCases.{Case, done-does, Allots, allots, alloc-case}
 use Rattle.rules.proofs.Remainder.{cut-numbers}
 use Rattle.rules.proofs.Staying.{kept-numbers}
 use Rattle.rules.proofs.RegrantCases.{Resizes, resizes, Relocates, moves, Regrants, in-place, elsewhere, resize-case, relocate-case, realloc-case}
@@ -37,7 +37,6 @@ use Rattle.ledger.specs.Ledger.{Entry, Ledger, told, Done, Listed, Unlis
 use Rattle.ledger.specs.Demands.{LawfulRequest, HasNeed, RefusedWhen, freeWordsIn, Tells}
 use Rattle.ledger.proofs.Blocks.{blocks-words, blocks-count}
 use Rattle.ledger.proofs.Entries.{listed-at, laid-listed, laid-above}
-use Rattle.ledger.proofs.Readings.{done-does}
 use Rattle.ledger.proofs.Agreeing.{Agrees, chunked-block, agrees-laid, agrees-lawful, listed-chunked, unlisted-block}
 
 -- ---- the reasons that an arena itself gives
@@ -78,6 +77,20 @@ would-move a (view b) e = absurd (omega arith)
 would-move a report e = absurd (report-behaves a .refused WouldMove .0 e .1)
 would-move a (write text) e = elim (write-behaves a text .refused WouldMove .0 e) [ ]
 would-move a (read text) e = elim (read-behaves a text .refused WouldMove .0 e) [ ]
+
+-- a call that finds a text too short is a writing
+short-of-text : (a : List ℕ) (c : Call) → ours c a .answer .code ≡ number TextRoom → (text : List ℕ) × (c ≡ write text)
+short-of-text a start e = absurd (omega (arith, ap number (start-behaves a .refused TextRoom .0 e .0)))
+short-of-text a (alloc w) e = absurd (alloc-behaves a w .refused TextRoom .0 e)
+short-of-text a (free b) e = absurd (free-behaves a b .refused TextRoom .0 e)
+short-of-text a (resize b w) e = absurd (resize-behaves a b w .refused TextRoom .0 e)
+short-of-text a (relocate b w) e = absurd (relocate-behaves a b w .refused TextRoom .0 e)
+short-of-text a (realloc b w) e = absurd (realloc-behaves a b w .refused TextRoom .0 e)
+short-of-text a (size b) e = absurd (size-behaves a b .refused TextRoom .0 e)
+short-of-text a (view b) e = absurd (omega arith)
+short-of-text a report e = absurd (report-behaves a .refused TextRoom .0 e)
+short-of-text a (write text) e = (text, refl)
+short-of-text a (read text) e = elim (read-behaves a text .refused TextRoom .0 e) [ ]
 
 -- ---- what is granted
 
@@ -193,6 +206,7 @@ module _ (n : ℕ) (a : List ℕ) (ledger : Ledger) (agrees : Agrees n a ledger)
         report-done = ap (λ (answer : Answer). answer .code) reported;
         live-blocks = rw (reported, agrees .lists) (blocks-count firstChunk (chunksOf a));
         write-room = text-room;
+        only-write-text-room = short-of-text a;
         write-length = λ text z.
             writes-sound a text (agrees .is-sound) (omega (arith, picture-length a, text-room text .done .0 z))
             ∙ ap (λ (long : ℕ). success (long ∷ [])) (picture-length a);

@@ -160,6 +160,7 @@ module _ (library : Library) where
     pub report-done : Done (library report a .answer)
     pub live-blocks : liveBlocksIn (library report a .answer) ≡ length ledger
     pub write-room : (text : List ℕ) → RefusedWhen TextRoom (length text < pictureLength (length a)) (library (write text) a .answer)
+    pub only-write-text-room : (c : Call) → library c a .answer .code ≡ number TextRoom → (text : List ℕ) × (c ≡ write text)
     pub write-length : (text : List ℕ) → Done (library (write text) a .answer)
         → library (write text) a .answer ≡ success (pictureLength (length a) ∷ [])
 

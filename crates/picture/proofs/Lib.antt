@@ -3,3 +3,4 @@ pub mod Parts
 pub mod LineByLine
 pub mod FrameByFrame
 pub mod Decoding
+pub mod Promised

@@ -13,12 +13,11 @@ use Rattle.layout.specs.declared.Reason.the-variants.{TextRoom}
 use Rattle.layout.proofs.Reasons.{number-positive}
 use Rattle.digits.specs.Putting.{Puts}
 use Rattle.digits.proofs.Putting.{puts-then, put-length}
-use Rattle.rules.specs.Answers.{Answer, success, refusal}
+use Rattle.rules.specs.Answers.{success, refusal}
 use Rattle.rules.specs.Pictures.{sizeLine, frame, framesFrom, framesFor, pictureOf, pictureLength, lineLength}
 use Rattle.rules.specs.Calls.{writeOn}
 use Rattle.rules.proofs.Pictures.{frames-length, picture-length}
 use Rattle.rules.proofs.Frames.{NextFrame, frames-next}
-use Rattle.rules.proofs.Outcomes.{gives-as}
 use Rattle.rules.proofs.PictureCalls.{text-unchanged, text-filled}
 use Rattle.picture.specs.Writing.{Writes}
 
@@ -116,7 +115,3 @@ module _ (a text : List ℕ) where
           fills = put .says ∙ sets-eq (pictureOf a) text 0 (omega arith) ∙ ap (λ (k : ℕ). pictureOf a ++ drop k text) from
               ∙ sym (text-filled a text (rw (← opens, enough)));
         }
-
--- what meets the promise still does, said otherwise
-pub writes-as : {a text after : List ℕ} {answer answer′ : Answer} → answer′ ≡ answer → Writes a text answer after → Writes a text answer′ after
-writes-as e w = record { gives = gives-as e (w .gives); fills = w .fills }

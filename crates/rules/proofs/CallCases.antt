@@ -5,6 +5,7 @@ use mathlib.Core.Logic.{_≢_}
 use mathlib.Core.Bool.{Bool, true, false, cond}
 use mathlib.Core.List.{List, [], _∷_, _++_}
 use Prim.Native.Nat.{ℕ, _+_, _-_}
+use native.Mathlib.Omega.{arith}
 use lib.ListN.{length, replicate}
 use Rattle.layout.specs.Numbers.{firstChunk, controlWords, headerWords, lawful, need}
 use Rattle.layout.specs.Chunks.{Chunk, free, live, total, written}
@@ -13,6 +14,7 @@ use Rattle.layout.specs.Reasons.{arenaGate}
 use Rattle.layout.specs.declared.Gate.{Gate}
 use Rattle.layout.specs.declared.Reason.{Reason}
 use Rattle.layout.specs.declared.Reason.the-variants.{Length, Damaged, NotABlock, Zero, TooLarge, NoRoom}
+use Rattle.layout.proofs.Reasons.{number-positive}
 use Rattle.rules.specs.Answers.{Outcome, refusal, success, done, refused, settle, pass}
 use Rattle.rules.specs.Spots.{Spot, at, held}
 use Rattle.rules.specs.Rules.{taken, cut, joined, released, grantedAt, grantFrom, allotted, freeWords, widest, liveBlocks, freeChunks}
@@ -38,6 +40,12 @@ module _ {fields : ℕ} {a : List ℕ} {Refuses : Reason → Type 0} {Does : Lis
       → outcome .answer .values ≡ replicate fields 0
   refused-zeros (refuses why r) n = refl
   refused-zeros (does d) n = absurd (n refl)
+
+  -- a call that is done did what it does
+  pub done-does : {outcome : Outcome} → Case fields a Refuses Does outcome → outcome .answer .code ≡ 0
+      → Does (outcome .answer .values) (outcome .words)
+  done-does (refuses why r) z = absurd (omega (arith, number-positive why))
+  done-does (does d) z = d
 
 -- ---- the calls
 

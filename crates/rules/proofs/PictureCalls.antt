@@ -24,7 +24,7 @@ use Rattle.rules.specs.Pictures.{pictureOf, Says, Said, bad, good, said}
 use Rattle.rules.specs.Calls.{writeOn, textAfter, readInto, readOn}
 use Rattle.rules.specs.Causes.{WriteRefused, ReadRefused, no-length, unsound, short-text, bad-text, other-length}
 use Rattle.rules.proofs.Gates.{Checked, unlawful, damaged, whole, checked, unlawful-gate, damaged-gate, sound-gate}
-use Rattle.rules.proofs.CallCases.{Case, refuses, does, refused-unchanged}
+use Rattle.rules.proofs.CallCases.{Case, refuses, does, done-does}
 use Rattle.rules.proofs.Keeping.{Kept}
 use Rattle.rules.proofs.Saying.{Saying, says, nothing, saying, said-says, picture-says}
 
@@ -64,11 +64,12 @@ module _ (a text : List ℕ) where
   unfolding textAfter
   text-filled z = rw (eq-eqb _ _ z)
 
-  -- a writing that is done has room
-  room-there : {outcome : Outcome} → Case 1 a (WriteRefused a text) Writes outcome → outcome .answer .code ≡ 0
-      → (sound a ≡ true) × (length (pictureOf a) ≤ length text)
-  room-there (refuses why r) z = absurd (omega (arith, number-positive why))
-  room-there (does (writes e r)) z = (e, r)
+  -- a writing that is done has a sound arena, and room
+  pub write-room : writeOn a text .answer .code ≡ 0 → (sound a ≡ true) × (length (pictureOf a) ≤ length text)
+  write-room z = go (done-does write-case z)
+    where
+      go : {values after : List ℕ} → Writes values after → (sound a ≡ true) × (length (pictureOf a) ≤ length text)
+      go (writes e r) = (e, r)
 
   pub text-length : length (textAfter a text) ≡ length text
   text-length = go (eqb (writeOn a text .answer .code) 0) refl
@@ -77,7 +78,7 @@ module _ (a text : List ℕ) where
       go true e =
           let z = eqb-true _ _ e in
           ap length (text-filled z) ∙ length-append (pictureOf a) (drop (length (pictureOf a)) text)
-          ∙ omega (arith, length-drop (length (pictureOf a)) text, room-there write-case z)
+          ∙ omega (arith, length-drop (length (pictureOf a)) text, write-room z)
       go false e = ap length (text-unchanged (eqb-false _ _ e))
 
   -- what was written is the picture
@@ -134,6 +135,14 @@ module _ (text a : List ℕ) where
   pub reads-kept : (values after : List ℕ) → Reads values after → Kept a after
   reads-kept values after (reads ws s e d) = record { same-length = e; still-sound = λ was. d }
 
+  -- a reading that is done leaves the words that its text says; they are as many as before, and sound
+  pub read-leaves : readOn text a .answer .code ≡ 0
+      → Says text (readOn text a .words) × (length (readOn text a .words) ≡ length a) × (sound (readOn text a .words) ≡ true)
+  read-leaves z = go (done-does read-case z)
+    where
+      go : {values after : List ℕ} → Reads values after → Says text after × (length after ≡ length a) × (sound after ≡ true)
+      go (reads ws s e d) = (s, e, d)
+
   -- a text that says a sound arena of this length is read, and its words are the arena
   pub reads-sound : (ws : List ℕ) → Says text ws → length ws ≡ length a → sound ws ≡ true → readOn text a ≡ record { answer = success []; words = ws }
   reads-sound ws s e d = rw (said-reads ws s, eq-eqb _ _ e, sound-gate ws d)
@@ -144,7 +153,7 @@ module _ (text a : List ℕ) where
 pub written-read : (a text other : List ℕ) → AllBelow wordValues a → length other ≡ length a → writeOn a text .answer .code ≡ 0
     → readOn (take (length (pictureOf a)) (textAfter a text)) other ≡ record { answer = success []; words = a }
 written-read a text other fits e z =
-    let (is-sound, room) = room-there a text (write-case a text) z in
+    let (is-sound, room) = write-room a text z in
     let most = sound-chunks a is-sound .law .most in
     rw (picture-there a text z)
     (reads-sound (pictureOf a) other a (picture-says a (omega arith) fits) (sym e) is-sound)
@@ -153,14 +162,11 @@ written-read a text other fits e z =
 pub read-written : (text a room : List ℕ) → readOn text a .answer .code ≡ 0 → length text ≤ length room
     → let ws = readOn text a .words in
     (writeOn ws room .answer ≡ success (length text ∷ [])) × (take (length text) (textAfter ws room) ≡ map upper text)
-read-written text a room z long = go (read-case text a) z
-  where
-    go : {outcome : Outcome} → Case 0 a (ReadRefused text a) (Reads text a) outcome → outcome .answer .code ≡ 0
-        → (writeOn (outcome .words) room .answer ≡ success (length text ∷ [])) × (take (length text) (textAfter (outcome .words) room) ≡ map upper text)
-    go (refuses why r) z = absurd (omega (arith, number-positive why))
-    go (does (reads ws s e d)) z =
-        let same : length (pictureOf ws) ≡ length text = ap length (sym (s .is)) ∙ length-map text upper in
-        let written = writes-sound ws room d (omega arith) in (
-          written ∙ ap (λ (n : ℕ). success (n ∷ [])) same,
-          ap (λ (n : ℕ). take n (textAfter ws room)) (sym same) ∙ picture-there ws room (ap (λ (r : Answer). r .code) written) ∙ sym (s .is),
-        )
+read-written text a room z long =
+    let ws = readOn text a .words in
+    let (s, e, d) = read-leaves text a z in
+    let same : length (pictureOf ws) ≡ length text = ap length (sym (s .is)) ∙ length-map text upper in
+    let written = writes-sound ws room d (omega arith) in (
+      written ∙ ap (λ (n : ℕ). success (n ∷ [])) same,
+      ap (λ (n : ℕ). take n (textAfter ws room)) (sym same) ∙ picture-there ws room (ap (λ (r : Answer). r .code) written) ∙ sym (s .is),
+    )

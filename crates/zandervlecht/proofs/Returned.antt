@@ -4,6 +4,7 @@ use mathlib.Core.Path.{_≡_, refl, sym, ap, _∙_}
 use mathlib.Core.List.{List, [], _∷_}
 use lib.ListN.{getD}
 use Rattle.rules.specs.Answers.{Answer, Outcome}
+use Rattle.rules.specs.Calls.{writeOn}
 use Rattle.answers.specs.Readings.{finishNumbers, grantedNumbers, sizedNumbers, reportedNumbers, writtenNumbers}
 use Rattle.answers.specs.Padded.{padded}
 use Rattle.answers.specs.Determined.{Determined}
@@ -17,6 +18,8 @@ use Rattle.answers.specs.declared.Reported.{Reported}
 use Rattle.answers.specs.declared.Reported.the-variants.{Counts, Refused as NotReported}
 use Rattle.answers.specs.declared.Written.{Written}
 use Rattle.answers.specs.declared.Written.the-variants.{Bytes, Refused as NotWritten}
+use Rattle.picture.specs.Writing.{Writes}
+use Rattle.picture.proofs.Promised.{writes-determined}
 use Rattle.zandervlecht.specs.Returned.{returned}
 
 -- ---- the answers, by their numbers
@@ -52,3 +55,8 @@ pub returned-determined : (outcome : Outcome) → Determined (λ (x : ℕ × Lis
 returned-determined outcome r r′ after after′ g g′ =
     let e : returned (r .0) (r .1) ≡ returned (r′ .0) (r′ .1) = g .answers ∙ sym (g′ .answers) in
     (ap (λ (x : Answer). (x .code, x .values)) e, g .leaves ∙ sym (g′ .leaves))
+
+-- so of a writing, and the texts left with them
+pub returned-writes : (a text : List ℕ) (r r′ : ℕ × List ℕ) (after after′ : List ℕ) → Writes a text (returned (r .0) (r .1)) after
+    → Writes a text (returned (r′ .0) (r′ .1)) after′ → (r ≡ r′) × (after ≡ after′)
+returned-writes a text = writes-determined (λ (x : ℕ × List ℕ). returned (x .0) (x .1)) a text (returned-determined (writeOn a text))

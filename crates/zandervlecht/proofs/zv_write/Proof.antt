@@ -1,5 +1,5 @@
 -- `zv_write` meets its contract: what the call answers is returned.
-use Rattle.picture.proofs.LineByLine.{writes-as}
+use Rattle.picture.proofs.Promised.{writes-as}
 use borrow.Author.Needs.{needs}
 use Rattle.zandervlecht.proofs.zv_write.Statement.{statement}
 use Rattle.zandervlecht.proofs.zv_write.Tie as tie
