@@ -11,10 +11,11 @@ import tempfile
 
 from support import cases, driver, picture_cases, programs
 
-TEXT = os.path.join(programs.ROOT, "docs", "morning.txt")
-DRAWING = os.path.join(programs.ROOT, "docs", "morning.svg")
-PAGE = os.path.join(programs.ROOT, "docs", "BOARD.md")
-TOOL = os.path.join(programs.ROOT, "tools", "draw_arena")
+# The files, from the repository's top.
+TEXT = "docs/morning.txt"
+DRAWING = "docs/morning.svg"
+PAGE = "docs/BOARD.md"
+TOOL = "tools/draw_arena"
 
 # The morning up to line 8, as calls: a start with 64 words, three blocks, and the first of them given back.
 MORNING = [(cases.START, 0, 0), (cases.ALLOC, 0, 10), (cases.ALLOC, 0, 20), (cases.ALLOC, 0, 3), (cases.FREE, 54, 0)]
@@ -27,6 +28,7 @@ READINGS = [200 + 25 * at - at * at for at in range(20)]
 # Texts that are not drawn, each with a word of the complaint.
 NOT_DRAWN = [(b"", "picture"), (b"060006\n", "picture"), (b"06\xff", "ascii"), (b"060000\n", "number of its words"),
              (b"060002\n0700000000000200000000\n", "number of its words"),
+             (b"060006\n070000000000070000000200000004000000000000000000000000\n", "number of its words"),
              (b"060006\n070000000000060000000200000002000000000000000000000000\n", "no chunk at word 2")]
 
 
@@ -48,52 +50,52 @@ def text_of_morning(chosen):
     return written.text[:written.field]
 
 
-def drawn(text):
-    """What the tool draws of a text, and what it says where it does not."""
+def drawn(root, text):
+    """What the tool of a repository draws of a text, and what it says where it does not."""
     with tempfile.TemporaryDirectory() as folder:
         source, target = os.path.join(folder, "text"), os.path.join(folder, "drawing")
         with open(source, "wb") as file:
             file.write(text)
-        ended = subprocess.run([sys.executable, TOOL, source, target], stderr=subprocess.PIPE, text=True)
+        ended = subprocess.run([sys.executable, os.path.join(root, TOOL), source, target], stderr=subprocess.PIPE, text=True)
         if ended.returncode != 0:
             return None, ended.stderr
         with open(target, "rb") as file:
             return file.read(), ended.stderr
 
 
-def content(path):
-    """The bytes of a file."""
-    with open(path, "rb") as file:
+def content(root, path):
+    """The bytes of a file of a repository."""
+    with open(os.path.join(root, path), "rb") as file:
         return file.read()
 
 
-def make_anew(text, drawing):
+def make_anew(root, text, drawing):
     """Writes both files."""
     for path, made in ((TEXT, text), (DRAWING, drawing)):
-        with open(path, "wb") as file:
+        with open(os.path.join(root, path), "wb") as file:
             file.write(made)
 
 
 def compare(chosen):
     """The text against the library's, the drawing against the tool's, and what is not drawn."""
-    text = text_of_morning(chosen)
-    drawing, said = drawn(text)
+    root, text = chosen.root, text_of_morning(chosen)
+    drawing, said = drawn(root, text)
     if drawing is None:
         raise driver.Difference(f"the picture of the morning is not drawn: {said}")
     if chosen.count == 0:
-        make_anew(text, drawing)
-    if content(TEXT) != text:
-        raise driver.Difference("docs/morning.txt is not what the library writes", expected=text)
-    if content(DRAWING) != drawing:
-        raise driver.Difference("docs/morning.svg is not what is drawn of docs/morning.txt", expected=drawing)
-    if b"\n" + b"".join(b"    " + line + b"\n" for line in text.splitlines()) not in content(PAGE):
-        raise driver.Difference("docs/BOARD.md does not show docs/morning.txt")
+        make_anew(root, text, drawing)
+    if content(root, TEXT) != text:
+        raise driver.Difference(f"{TEXT} is not what the library writes", expected=text)
+    if content(root, DRAWING) != drawing:
+        raise driver.Difference(f"{DRAWING} is not what is drawn of {TEXT}", expected=drawing)
+    if b"\n" + b"".join(b"    " + line + b"\n" for line in text.splitlines()) not in content(root, PAGE):
+        raise driver.Difference(f"{PAGE} does not show {TEXT}")
     for bad, word in NOT_DRAWN:
-        drawing, said = drawn(bad)
+        drawing, said = drawn(root, bad)
         if drawing is not None or word not in said:
             raise driver.Difference(f"of the text {bad!r} it was said: {said!r}", text=bad)
     return f"the morning's picture and its drawing compared, and {len(NOT_DRAWN)} texts that are not drawn"
 
 
 if __name__ == "__main__":
-    driver.finish("test_drawing", compare, driver.options(__doc__, 1, named=("cases", "picture_cases")))
+    driver.finish("test_drawing", compare, driver.options(__doc__, 1, named=("cases", "picture_cases"), root=programs.ROOT))

@@ -7,7 +7,7 @@ import glob
 import os
 
 from support import cases, driver, lines, model, picture_cases, pictures, programs, spoiling, teeth
-from support import spoiled_c, spoiled_desk, spoiled_headers, spoiled_pages
+from support import spoiled_c, spoiled_desk, spoiled_drawing, spoiled_headers, spoiled_pages
 from support.comparing import compare_answers, compare_replies, compare_together
 
 LINES = b"010020\n020005\n020001\n05\n03001A\n0Z\n"
@@ -108,7 +108,7 @@ def check_all_tried():
     """Each driver is tried by a row of faults, or on spoiled copies, but for those that try the others."""
     named = {os.path.basename(path)[:-len(".py")] for path in glob.glob(os.path.join(programs.TESTS, "test_*.py"))}
     tried = {trial.driver for trial in teeth.ROWS + teeth.LINES + teeth.ARENAS + teeth.PICTURES}
-    tried |= {spoiled.DRIVER for spoiled in (spoiled_pages, spoiled_headers, spoiled_c, spoiled_desk)}
+    tried |= {spoiled.DRIVER for spoiled in (spoiled_pages, spoiled_drawing, spoiled_headers, spoiled_c, spoiled_desk)}
     untried = sorted(name for name in named - tried if not name.startswith("test_teeth"))
     if untried:
         raise driver.Difference(f"nothing tries whether these complain: {untried}")
@@ -118,7 +118,7 @@ def compare(chosen):
     """The comparers first, then the drivers; the last line counts what they were tried on."""
     check_all_tried()
     judged = check_comparers()
-    pages = spoiling.check_driver(spoiled_pages.DRIVER, spoiled_pages.SPOILED)
+    pages = sum(spoiling.check_driver(spoiled.DRIVER, spoiled.SPOILED) for spoiled in (spoiled_pages, spoiled_drawing))
     seen = teeth.check_drivers(teeth.LINES, chosen.seed)
     outputs = f"{judged} outputs, wrong and true, were judged rightly"
     return f"{outputs}, and all {seen} faulty programs and {pages} spoiled pages were seen"

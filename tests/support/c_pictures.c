@@ -110,8 +110,5 @@ static bool run_case(void)
 
 int main(void)
 {
-    while (run_case())
-        continue;
-    end_writing();
-    return EXIT_SUCCESS;
+    return run_all(run_case);
 }

@@ -7,6 +7,7 @@
 #ifndef ROOMS_H
 #define ROOMS_H
 
+#include <stdbool.h>
 #include <stdio.h>
 #include <stdlib.h>
 
@@ -65,11 +66,14 @@ static inline void write_bytes(const void *content, size_t bytes)
         give_up("a reply cannot be written", "");
 }
 
-/* Sees to it that all that was written comes out. */
-static inline void end_writing(void)
+/* Runs cases until there is no whole one, and sees to it that all replies come out. */
+static inline int run_all(bool (*run_case)(void))
 {
+    while (run_case())
+        continue;
     if (fflush(stdout) != 0)
         give_up("the replies cannot be written", "");
+    return EXIT_SUCCESS;
 }
 
 #endif

@@ -4,7 +4,7 @@ ghost use mathlib.Core.Path.{_≡_};
 ghost use Rattle.answers.specs.Readings.{finishNumbers, grantedNumbers, sizedNumbers, reportedNumbers, writtenNumbers};
 ghost use Rattle.answers.specs.Padded.{padded, paddedRefusal};
 
-// What start and free answer.
+// What start, free and the reading of a picture answer.
 pub enum Finish {
     Done,
     Refused(Reason),
@@ -57,7 +57,7 @@ pub fn refusal_numbers(count: usize, why: Reason) -> Numbers
     }
 }
 
-// What start and free answer, in numbers.
+// What start, free and the reading of a picture answer, in numbers.
 pub fn finish_numbers(finish: Finish) -> Numbers
     ensures { λ r. ⌜ r ≡ padded (finishNumbers finish) ⌝ }
 {

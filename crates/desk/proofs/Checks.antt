@@ -1,10 +1,9 @@
 -- What the check says of bytes.
-use Prim.Native.Nat.{ℕ, _*_, _/_, _%_, _≤_}
+use Prim.Native.Nat.{ℕ, _/_, _%_}
 use mathlib.Core.Path.{_≡_, refl, sym, ap, _∙_}
-use mathlib.Core.Logic.{_≢_, _↔_, _⊎_, inl, inr}
-use mathlib.Core.Bool.{Bool, true, false, cond, true≢false}
-use mathlib.Core.List.{List, [], _∷_}
-use native.Mathlib.Omega.{arith}
+use mathlib.Core.Logic.{_≢_}
+use mathlib.Core.Bool.{Bool, true, false, cond}
+use mathlib.Core.List.{List}
 use lib.ListN.{length}
 use lib.Dec.{eqb}
 use borrow.Author.Tests.{eq-eqb, ne-eqb, eqb-true, eqb-false}
@@ -12,25 +11,17 @@ use Rattle.layout.specs.Numbers.{lawful}
 use Rattle.layout.specs.Walk.{sound}
 use Rattle.layout.specs.Reasons.{arenaGate}
 use Rattle.layout.specs.declared.Gate.{Gate}
-use Rattle.layout.specs.declared.Gate.the-variants.{Open, Shut}
+use Rattle.layout.specs.declared.Gate.the-variants.{Shut}
 use Rattle.layout.specs.declared.Reason.the-variants.{Length}
 use Rattle.rules.proofs.Gates.{Checked, unlawful, damaged, whole, checked, unlawful-gate}
 use Rattle.spelling.specs.Words.{wordsOf}
+use Rattle.spelling.proofs.Words.{words-spelled}
 use Rattle.desk.specs.Checks.{gateNumber, bytesGate}
 
--- bytes spell a quarter as many words
-pub words-spelled : (bytes : List ℕ) → length (wordsOf bytes) ≡ length bytes / 4
-unfolding wordsOf
-words-spelled [] = refl
-words-spelled (a ∷ []) = refl
-words-spelled (a ∷ (b ∷ [])) = refl
-words-spelled (a ∷ (b ∷ (c ∷ []))) = refl
-words-spelled (a ∷ (b ∷ (c ∷ (d ∷ rest)))) = omega (arith, words-spelled rest)
-
 module _ (bytes : List ℕ) where
-  pub odd-bytes : length bytes % 4 ≢ 0 → bytesGate bytes ≡ Shut Length
+  pub bytes-over : length bytes % 4 ≢ 0 → bytesGate bytes ≡ Shut Length
   unfolding bytesGate
-  odd-bytes n = rw (ne-eqb _ _ n)
+  bytes-over n = rw (ne-eqb _ _ n)
 
   pub whole-words : length bytes % 4 ≡ 0 → bytesGate bytes ≡ arenaGate (wordsOf bytes)
   unfolding bytesGate
@@ -47,9 +38,9 @@ module _ (bytes : List ℕ) where
     is-unlawful : length bytes % 4 ≡ 0 → lawful (length bytes / 4) ≡ false → Told 1
     is-damaged : length bytes % 4 ≡ 0 → lawful (length bytes / 4) ≡ true → sound (wordsOf bytes) ≡ false → Told 2
 
-  pub told : Told (gateNumber (bytesGate bytes))
+  pub check-told : Told (gateNumber (bytesGate bytes))
   unfolding bytesGate
-  told = go (eqb (length bytes % 4) 0) refl (checked (wordsOf bytes))
+  check-told = go (eqb (length bytes % 4) 0) refl (checked (wordsOf bytes))
     where
       go : (fours : Bool) → eqb (length bytes % 4) 0 ≡ fours → {gate : Gate} → Checked (wordsOf bytes) gate
           → Told (gateNumber (cond fours gate (Shut Length)))

@@ -32,7 +32,8 @@ fn load_and_check(spelled: &[u8], words: &mut [u32]) -> Gate
     walk::check_arena(words)
 }
 
-// The same as a number: 0, 1 or 2.
+// The check of an arena that comes as bytes: 0 where it is sound, 1 where no arena has so many bytes, 2 where it is not
+// sound.
 pub fn check(spelled: &[u8]) -> u32
     ensures { λ r. ⌜ r ≡ gateNumber (bytesGate (now (spelled .entry))) ⌝ }
 {

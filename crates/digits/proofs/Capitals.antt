@@ -1,19 +1,14 @@
 -- A letter in upper case is worth what it is worth in lower case, and what is written is in upper case already.
-use Prim.Native.Nat.{ℕ, _+_, _-_, _*_, _/_, _%_, _<_}
+use Prim.Native.Nat.{ℕ, zero, suc, _+_, _-_, _*_, _/_, _%_, _<_}
 use mathlib.Core.Path.{_≡_, refl, sym, ap, ap₂, _∙_}
 use mathlib.Core.Logic.{⊎-elim}
-use mathlib.Core.Bool.{Bool, true, false, cond, and-false}
+use mathlib.Core.Bool.{Bool, true, false, cond}
 use mathlib.Core.List.{List, [], _∷_, _++_, map}
 use native.Mathlib.Omega.{arith}
-use lib.Dec.{leb}
-use borrow.Author.Tests.{le-leb, lt-leb}
-use Rattle.digits.specs.Digits.{between, worth, numberFrom, numberOf, upper, glyph, twoDigits, fourDigits, eightDigits, inDigits}
-use Rattle.digits.proofs.Ranges.{within, worth-known}
-use Rattle.digits.proofs.Reading.{inside, UpperDigit, glyph-upper}
-
--- a byte above a range is not in it
-above : (first last b : ℕ) → last < b → between first last b ≡ false
-above first last b h = rw (lt-leb b last h) (and-false (leb first b))
+use lib.ListN.{take, drop}
+use Rattle.digits.specs.Digits.{between, worth, numberFrom, upper, glyph, twoDigits, fourDigits, eightDigits, inDigits}
+use Rattle.digits.proofs.Ranges.{within, inside, below, above, worth-known}
+use Rattle.digits.proofs.Reading.{glyph-upper}
 
 -- a byte that is no small letter stays
 stays : (b : ℕ) → between 97 102 b ≡ false → upper b ≡ b
@@ -24,10 +19,10 @@ pub worth-upper : (b : ℕ) → worth (upper b) ≡ worth b
 unfolding upper
 worth-upper b = go (between 97 102 b) refl
   where
-    go : (letter : Bool) → between 97 102 b ≡ letter → worth (cond letter (b - 32) b) ≡ worth b
+    go : (letter : Bool) → between 97 102 b ≡ letter → worth (cond letter (b - 97 + 65) b) ≡ worth b
     go true e =
         let (least, most) = within 97 102 b e in
-        worth-known (b - 32) false true _ (above 48 57 (b - 32) (omega arith)) (inside 65 70 (b - 32) (omega arith) (omega arith)) refl
+        worth-known (b - 97 + 65) false true _ (above 48 57 (b - 97 + 65) (omega arith)) (inside 65 70 (b - 97 + 65) (omega arith) (omega arith)) refl
         ∙ omega arith ∙ sym (worth-known b false false true (above 48 57 b (omega arith)) (above 65 70 b (omega arith)) e)
     go false e = refl
 
@@ -37,13 +32,22 @@ number-upper n (b ∷ bs) = ap (λ (w : ℕ). numberFrom (n * 16 + w) (map upper
 
 -- ---- what is written
 
-below : (first last b : ℕ) → b < first → between first last b ≡ false
-below first last b h = rw (lt-leb first b h)
-
 pub upper-glyph : (d : ℕ) → d < 16 → upper (glyph d) ≡ glyph d
 upper-glyph d l =
     ⊎-elim (λ e. let (least, most) = within 48 57 (glyph d) e in stays (glyph d) (below 97 102 (glyph d) (omega arith)))
     (λ e. let (least, most) = within 65 70 (glyph d) e in stays (glyph d) (below 97 102 (glyph d) (omega arith))) (glyph-upper d l)
+
+-- ---- bytes in a row
+
+pub take-upper : (k : ℕ) (bs : List ℕ) → take k (map upper bs) ≡ map upper (take k bs)
+take-upper zero bs = refl
+take-upper (suc k) [] = refl
+take-upper (suc k) (b ∷ bs) = ap (λ (l : List ℕ). upper b ∷ l) (take-upper k bs)
+
+pub drop-upper : (k : ℕ) (bs : List ℕ) → drop k (map upper bs) ≡ map upper (drop k bs)
+drop-upper zero bs = refl
+drop-upper (suc k) [] = refl
+drop-upper (suc k) (b ∷ bs) = drop-upper k bs
 
 map-append : (xs ys : List ℕ) → map upper (xs ++ ys) ≡ map upper xs ++ map upper ys
 map-append [] ys = refl

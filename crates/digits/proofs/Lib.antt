@@ -3,5 +3,5 @@ pub mod Ranges
 pub mod DigitRuns
 pub mod Reading
 pub mod Capitals
-pub mod Finding
+pub mod NumbersFound
 pub mod Putting

@@ -1,12 +1,12 @@
 -- Bytes put into a text one after the other; numbers put so, each in its digits.
-use Prim.Native.Nat.{ℕ, suc, _+_, _*_, _<_}
+use Prim.Native.Nat.{ℕ, suc, _+_, _*_, _≤_, _<_}
 use mathlib.Core.Path.{_≡_, refl, sym, ap, _∙_}
 use mathlib.Core.List.{List, [], _∷_, _++_, append-assoc, append-nil}
 use native.Mathlib.Omega.{arith}
 use native.Mathlib.Nat.{suc-mul}
-use lib.ListN.{length, getD, take, set, length-append}
-use lib.Seq.{sets, length-sets, length-take-le, take-suc}
-use Rattle.digits.specs.Digits.{inDigits}
+use lib.ListN.{length, getD, take, drop, set, length-append}
+use lib.Seq.{sets, sets-eq, length-sets, length-take-le, take-suc}
+use Rattle.digits.specs.Digits.{lineEnd, inDigits}
 use Rattle.digits.specs.Putting.{Puts}
 
 -- two bytes, one after the other
@@ -26,6 +26,21 @@ puts-then at mid end xs ys room text after p q =
       ends = q .ends ∙ omega (arith, p .ends, length-append xs ys);
       says = q .says ∙ ap (λ (t : List ℕ). sets t mid ys) (p .says) ∙ sym (sets-append xs ys room at mid (p .ends));
     }
+
+-- three runs of bytes and the line's end
+pub puts-line : (at mid next end : ℕ) (xs ys zs room one two three : List ℕ) → Puts at xs room mid one → Puts mid ys one next two
+    → Puts next zs two end three → Puts at (xs ++ (ys ++ (zs ++ lineEnd ∷ []))) room (end + 1) (set three end lineEnd)
+puts-line at mid next end xs ys zs room one two three first second third =
+    puts-then at mid (end + 1) xs (ys ++ (zs ++ lineEnd ∷ [])) room one _ first
+    (puts-then mid next (end + 1) ys (zs ++ lineEnd ∷ []) one two _ second
+    (puts-then next end (end + 1) zs (lineEnd ∷ []) two three _ third (record { ends = refl; says = refl })))
+
+-- bytes that are put at the start of a text are its front
+pub put-front : {bs room text : List ℕ} {end : ℕ} → Puts 0 bs room end text → length bs ≤ length room
+    → (end ≡ length bs) × (text ≡ bs ++ drop (length bs) room)
+put-front {bs} {room} p h =
+    let from : 0 + length bs ≡ length bs = omega arith in
+    (p .ends ∙ from, p .says ∙ sets-eq bs room 0 (omega arith) ∙ ap (λ (k : ℕ). bs ++ drop k room) from)
 
 -- a text stays as long as it was
 pub put-length : {at end : ℕ} {bs room text : List ℕ} → Puts at bs room end text → length text ≡ length room

@@ -1,17 +1,14 @@
 -- Numbers that are written as digits can be read back.
-use Prim.Native.Nat.{ℕ, _+_, _-_, _*_, _/_, _%_, _≤_, _<_}
+use Prim.Native.Nat.{ℕ, _+_, _-_, _*_, _/_, _%_, _<_}
 use mathlib.Core.Path.{_≡_, refl, ap, _∙_}
 use mathlib.Core.Logic.{_⊎_, inl, inr}
-use mathlib.Core.Bool.{Bool, true, false, cond, and-false}
+use mathlib.Core.Bool.{Bool, true, false, cond}
 use native.Mathlib.Omega.{arith}
-use lib.Dec.{leb, ltb}
-use borrow.Author.Tests.{ltb-true, ltb-false, le-leb, lt-leb}
+use lib.Dec.{ltb}
+use borrow.Author.Tests.{ltb-true, ltb-false}
 use Rattle.digits.specs.Digits.{between, worth, numberFrom, numberOf, glyph, twoDigits, fourDigits, eightDigits, fourDigitValues, twoDigitValues}
-use Rattle.digits.proofs.Ranges.{worth-known}
+use Rattle.digits.proofs.Ranges.{inside, above, worth-known}
 use Rattle.digits.proofs.DigitRuns.{number-append}
-
-pub inside : (first last b : ℕ) → first ≤ b → b ≤ last → between first last b ≡ true
-inside first last b least most = rw (le-leb first b least, le-leb b last most)
 
 -- the byte of a digit is one of 0 to 9, or one of A to F
 abbrev pub UpperDigit : ℕ → Type 0
@@ -36,7 +33,7 @@ worth-glyph d l = go (ltb d 10) refl
     go false e =
         let ten = ltb-false d 10 e in
         let b = 65 + (d - 10) in
-        let no-figure : between 48 57 b ≡ false = rw (lt-leb b 57 (omega arith)) (and-false (leb 48 b)) in
+        let no-figure : between 48 57 b ≡ false = above 48 57 b (omega arith) in
         let letter : between 65 70 b ≡ true = inside 65 70 b (omega arith) (omega arith) in
         worth-known b false true _ no-figure letter refl ∙ omega arith
 

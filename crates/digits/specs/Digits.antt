@@ -34,7 +34,7 @@ numberOf bs = numberFrom 0 bs
 
 -- a letter a to f as the capital A to F, any other byte as it is
 unfoldable pub upper : ℕ → ℕ
-upper b = cond (between 97 102 b) (b - 32) b
+upper b = cond (between 97 102 b) (b - 97 + 65) b
 
 -- the byte of a digit: 0 to 9, or A to F
 unfoldable pub glyph : ℕ → ℕ

@@ -1,3 +1,3 @@
 pub mod Digits
 pub mod Putting
-pub mod Finding
+pub mod NumbersFound

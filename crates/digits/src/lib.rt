@@ -5,7 +5,10 @@ ghost use lib.ListN.{length};
 ghost use Rattle.digits.specs.Digits.{between, twoDigits, fourDigits, eightDigits};
 ghost use Rattle.digits.specs.Digits.{worth as worthOf, upper as upperOf, glyph as glyphOf};
 ghost use Rattle.digits.specs.Putting.{Puts};
-ghost use Rattle.digits.specs.Finding.{NumberAt};
+ghost use Rattle.digits.specs.NumbersFound.{NumberAt};
+
+// What four digits make is below this number.
+pub const FOUR_DIGIT_VALUES: u64 = 65536;
 
 // Whether a byte is one of those from `first` to `last`.
 fn is_between(first: u8, last: u8, b: u8) -> bool
@@ -35,7 +38,7 @@ pub fn upper(b: u8) -> u8
     ensures { λ r. ⌜ r ≡ upperOf b ⌝ }
 {
     if is_between(b'a', b'f', b) {
-        return b - 32;
+        return b - b'a' + b'A';
     }
     b
 }

@@ -1,18 +1,18 @@
 -- A line put part by part, words that are loaded one by one, and a line that is compared byte by byte.
 use Prim.Native.Nat.{ℕ, suc, _+_, _-_, _%_, _≤_, _<_}
-use mathlib.Core.Path.{_≡_, refl, sym, ap, ap₂, _∙_}
-use mathlib.Core.Bool.{Bool, true, false, _&&_}
+use mathlib.Core.Path.{_≡_, ap, _∙_}
+use mathlib.Core.Bool.{true, false, _&&_}
 use mathlib.Core.List.{List, [], _∷_, _++_, map}
 use native.Mathlib.Omega.{arith}
 use native.Mathlib.Numerals.{add-one}
 use lib.ListN.{length, getD, take, drop, set, drop-of-length-le}
-use lib.Seq.{sets, sets-eq, drop-cons, drop-drop, take-append-seam, take-all}
+use lib.Seq.{drop-cons, drop-drop, take-append-seam}
 use lib.Dec.{eqb}
 use borrow.Author.Tests.{eq-eqb, ne-eqb}
 use Rattle.layout.specs.Numbers.{wordValues}
 use Rattle.digits.specs.Digits.{lineEnd, numberOf, upper, twoDigits, fourDigits, eightDigits, inDigits}
 use Rattle.digits.specs.Putting.{Puts}
-use Rattle.digits.proofs.Putting.{puts-then}
+use Rattle.digits.proofs.Putting.{puts-line, put-front}
 use Rattle.rules.specs.Pictures.{line, wordsIn, same}
 use Rattle.frames.specs.Lines.{hasLine}
 
@@ -22,17 +22,14 @@ pub line-put : (kind number at end : ℕ) (ws room one two three : List ℕ) →
     → Puts at (line kind number ws) room (end + 1) (set three end lineEnd)
 unfolding line
 line-put kind number at end ws room one two three first second words =
-    puts-then at (at + 2) (end + 1) (twoDigits kind) (fourDigits number ++ (inDigits eightDigits ws ++ lineEnd ∷ [])) room one _ first
-    (puts-then (at + 2) (at + 6) (end + 1) (fourDigits number) (inDigits eightDigits ws ++ lineEnd ∷ []) one two _
-    (record { ends = omega arith; says = second .says })
-    (puts-then (at + 6) end (end + 1) (inDigits eightDigits ws) (lineEnd ∷ []) two three _ words (record { ends = refl; says = refl })))
+    puts-line at (at + 2) (at + 6) end (twoDigits kind) (fourDigits number) (inDigits eightDigits ws) room one two three first
+    (record { ends = omega arith; says = second .says }) words
 
 -- bytes that were put at the start of a text stand there
 pub put-there : {bs room text : List ℕ} {end : ℕ} → Puts 0 bs room end text → length bs ≤ length room → take end text ≡ bs
-put-there {bs} {room} {text} {end} p h =
-    let whole : text ≡ bs ++ drop (0 + length bs) room = p .says ∙ sets-eq bs room 0 (omega arith) in
-    let n : end ≡ length bs = p .ends ∙ omega arith in
-    rw (whole, n) (take-append-seam bs (drop (0 + length bs) room))
+put-there {bs} {room} p h =
+    let (ended, whole) = put-front p h in
+    rw (whole, ended) (take-append-seam bs (drop (length bs) room))
 
 -- a line that was put at the start of a buffer, and the part of a text that is compared with it
 pub line-found : (text buffer expected : List ℕ) (at count : ℕ) → count ≡ length expected → take count buffer ≡ expected

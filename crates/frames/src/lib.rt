@@ -5,7 +5,7 @@ ghost use Prim.Native.Nat.{_+_, _*_, _≤_, _<_};
 ghost use lib.ListN.{length, drop};
 ghost use Rattle.digits.specs.Digits.{upper, fourDigitValues, eightDigits, inDigits};
 ghost use Rattle.digits.specs.Putting.{Puts};
-ghost use Rattle.rules.specs.Pictures.{frameWords, line, lineLength, pictureLength, wordsIn, same};
+ghost use Rattle.rules.specs.Pictures.{frameWords, line, lineLength, pictureLength, wordsIn, standingCount, same};
 ghost use Rattle.frames.specs.Lines.{hasLine};
 
 // The kinds of lines: the first one, with the number of words, and a frame.
@@ -14,17 +14,21 @@ pub const SIZE_LINE: u32 = 6;
 pub const FRAME: u32 = 7;
 // The words of a full frame.
 pub const FRAME_WORDS: usize = 8;
-// The bytes of a line before its words, and those of the longest line.
+// The digits of a word.
+const WORD_DIGITS: usize = 8;
+// The bytes of a line before its words, those of a line without words, and those of the longest line.
 pub const LINE_HEAD: usize = 6;
 
-const LONGEST_LINE: usize = 71;
+const BARE_LINE: usize = LINE_HEAD + 1;
+
+const LONGEST_LINE: usize = BARE_LINE + FRAME_WORDS * WORD_DIGITS;
 
 // The bytes of a line with so many words.
 pub fn line_length(count: usize) -> usize
     requires { ⌜ count ≤ frameWords ⌝ }
     ensures { λ r. ⌜ r ≡ lineLength count ⌝ }
 {
-    7 + count * 8
+    BARE_LINE + count * WORD_DIGITS
 }
 
 // The bytes of the picture of `n` words.
@@ -32,7 +36,8 @@ pub fn picture_length(n: usize) -> usize
     requires { ⌜ n < fourDigitValues ⌝ }
     ensures { λ r. ⌜ r ≡ pictureLength n ⌝ }
 {
-    7 + n * 8 + (n + (FRAME_WORDS - 1)) / FRAME_WORDS * 7
+    let frames = (n + (FRAME_WORDS - 1)) / FRAME_WORDS;
+    (1 + frames) * BARE_LINE + n * WORD_DIGITS
 }
 
 // Writes words in eight digits each, and gives where they end.
@@ -42,10 +47,10 @@ fn put_words(out: &mut [u8], at: usize, words: &[u32]) -> usize
 {
     let mut i = 0;
     while i < words.len() {
-        digits::put_eight(out, at + i * 8, words[i]);
+        digits::put_eight(out, at + i * WORD_DIGITS, words[i]);
         i += 1;
     }
-    at + words.len() * 8
+    at + words.len() * WORD_DIGITS
 }
 
 // Writes a line, and gives where it ends.
@@ -60,16 +65,25 @@ pub fn put_line(out: &mut [u8], at: usize, kind: u32, number: u32, words: &[u32]
     end + 1
 }
 
-// Makes `words` the words that stand in a text from byte `at` on, eight bytes each, whatever bytes these are.
+// Makes `words` the words that stand in a text from byte `at` on, whatever bytes these are: if one is no digit the
+// number may be too large for a word, and the text is bad anyway.
 pub fn load_words(text: &[u8], at: usize, words: &mut [u32])
     requires { ⌜ at + length (now words) * 8 ≤ length (now text) ⌝ }
     ensures { λ _. ⌜ now (words .exit) ≡ wordsIn (length (now (words .entry))) (drop at (now (text .entry))) ⌝ }
 {
     let mut i = 0;
     while i < words.len() {
-        words[i] = (digits::eight_at(text, at + i * 8) % 4294967296) as u32;
+        words[i] = (digits::eight_at(text, at + i * WORD_DIGITS) % layout::WORD_VALUES) as u32;
         i += 1;
     }
+}
+
+// How many words the first line of a text tells, whatever bytes stand there.
+pub fn words_told(text: &[u8]) -> usize
+    requires { ⌜ lineLength 0 ≤ length (now text) ⌝ }
+    ensures { λ r. ⌜ r ≡ standingCount (now (text .entry)) ⌝ }
+{
+    (digits::four_at(text, 2) % digits::FOUR_DIGIT_VALUES) as usize
 }
 
 // Whether a part of a text, its letters as capitals, is this line.

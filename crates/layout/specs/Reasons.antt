@@ -1,4 +1,4 @@
--- The reasons for saying no, with their numbers, and the first two: the gate of every call but start.
+-- The reasons for saying no, with their numbers, and the first two: the gate of words that have to be a sound arena.
 use Prim.Native.Nat.{ℕ}
 use mathlib.Core.List.{List}
 use mathlib.Core.Bool.{cond}

@@ -26,6 +26,9 @@ pub const LEAST_SPLIT: usize = 4;
 // The second word of a live chunk.
 pub const LIVE_MARK: u32 = 4294967295;
 
+// What fits a word is below this number.
+pub const WORD_VALUES: u64 = 4294967296;
+
 // Why a call says no.
 pub enum Reason {
     Length,

@@ -21,13 +21,13 @@ use Rattle.rules.proofs.Starting.{whole-lawful}
 use Rattle.rules.proofs.CallCases.{Case, refuses, does, Restarts, restarts, start-case, Allots, allots, alloc-case, Frees, frees, free-case, Measures}
 use Rattle.rules.proofs.CallCases.{measures, size-case, Reports, reports, report-case}
 use Rattle.rules.proofs.RegrantCases.{Resizes, resizes, Relocates, moves, Regrants, in-place, elsewhere, resize-case, relocate-case, realloc-case}
-use Rattle.rules.proofs.PictureCalls.{Writes, writes, write-case, Reads, reads, read-case}
+use Rattle.rules.proofs.PictureCalls.{Draws, draws, write-case, Takes, takes, read-case}
 use Rattle.rules.proofs.OldBlock.{still-there}
 use Rattle.ledger.specs.Events.{Call, start, alloc, free, resize, relocate, realloc, size, view, report, write, read, call, ours}
 use Rattle.ledger.specs.Ledger.{Ledger, picturedBlocks, renews, grants, frees, regrants, effect, noted, ifDone, ledgerAfter, Done}
 use Rattle.ledger.specs.Holders.{renamed}
 use Rattle.ledger.proofs.Agreeing.{Agrees}
-use Rattle.ledger.proofs.Readings.{said-agrees}
+use Rattle.ledger.proofs.PicturesRead.{said-agrees}
 use Rattle.ledger.proofs.Going.{Goes, unchanged-goes, written-goes, freed-goes, stays-goes, granted-goes}
 use Rattle.ledger.proofs.Moves.{moved-goes}
 
@@ -100,13 +100,13 @@ module _ (n : ℕ) (a : List ℕ) (ledger : Ledger) (g : Agrees n a ledger) wher
   report-goes : (values after : List ℕ) → Reports a values after → Goes n a ledger (λ c. c) after ledger
   report-goes values after (reports e) = unchanged-goes n a ledger g
 
-  write-goes : (text values after : List ℕ) → Writes a text values after → Goes n a ledger (λ c. c) after ledger
-  write-goes text values after (writes e room) = unchanged-goes n a ledger g
+  write-goes : (text values after : List ℕ) → Draws a text values after → Goes n a ledger (λ c. c) after ledger
+  write-goes text values after (draws e room) = unchanged-goes n a ledger g
 
   -- a picture may have a block of an old one's number, so no old words are said to be kept
-  read-noted : (text : List ℕ) {outcome : Outcome} → Case 0 a (ReadRefused text a) (Reads text a) outcome → CallNoted n a ledger (read text) outcome
+  read-noted : (text : List ℕ) {outcome : Outcome} → Case 0 a (ReadRefused text a) (Takes text a) outcome → CallNoted n a ledger (read text) outcome
   read-noted text (refuses why r) = kept (refused-goes n a ledger (read text) 0 why g)
-  read-noted text (does (reads ws s e d)) = renewed refl (picturedBlocks (said text)) refl (said-agrees n text ws s (e ∙ g .long) d)
+  read-noted text (does (takes ws s e d)) = renewed refl (picturedBlocks (said text)) refl (said-agrees n text ws s (e ∙ g .long) d)
 
   pub call-noted : (c : Call) → CallNoted n a ledger c (ours c a)
   call-noted start = kept (case-goes start g start-goes (start-case a))

@@ -12,7 +12,7 @@ use Rattle.ledger.specs.Ledger.{Held}
 use Rattle.ledger.specs.Runs.{State, after, Run, next}
 use Rattle.ledger.specs.Holders.{wordAfter, numberAfter, StoredLast, just, pictured, still}
 use Rattle.ledger.proofs.Stores.{store-there}
-use Rattle.ledger.proofs.Readings.{read-shows}
+use Rattle.ledger.proofs.PicturesRead.{read-shows}
 use Rattle.ledger.proofs.Onward.{still-held}
 use Rattle.ledger.proofs.Runs.{event-keeps, run-agrees}
 

@@ -4,7 +4,7 @@ pub mod Blocks
 pub mod Changes
 pub mod Gaps
 pub mod Agreeing
-pub mod Readings
+pub mod PicturesRead
 pub mod WantOfRoom
 pub mod Showing
 pub mod Going

@@ -14,7 +14,7 @@ use Rattle.ledger.specs.Runs.{State, Allowed, after, Run, begun, arrived
 use Rattle.ledger.specs.Holders.{wordAfter, numberAfter, Ended}
 use Rattle.ledger.specs.Demands.{GoesOn}
 use Rattle.ledger.proofs.Agreeing.{Agrees}
-use Rattle.ledger.proofs.Readings.{read-agrees}
+use Rattle.ledger.proofs.PicturesRead.{read-agrees}
 use Rattle.ledger.proofs.CallsNoted.{CallNoted, kept, renewed, call-noted, call-agrees}
 use Rattle.ledger.proofs.Onward.{Onward, ends, stays, changes, onward}
 use Rattle.ledger.proofs.Stores.{store-agrees, store-keeps}

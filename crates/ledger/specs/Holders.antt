@@ -45,8 +45,8 @@ module _ (library : Library) where
   Cut event s b i = Done (answerTo library event s) × (effect event ≡ regrants b) × (told (answerTo library event s) .granted ≤ i)
 
   -- in a run up to a state, `v` is what was stored last at place `i` of the block that is now number `b`: it was stored
-  -- just now, or it is what a picture shows there that was read just now, or it was so before an event that neither
-  -- ends the block, nor cuts the place off, nor stores to the place
+  -- just now, or it is what a picture shows there that was read just now, whatever the state was, or it was so before
+  -- an event that neither ends the block, nor cuts the place off, nor stores to the place
   pub data StoredLast (n : ℕ) : State → ℕ → ℕ → ℕ → Type 0 where
     just : {s : State} → Run library n s → (b i v : ℕ) → Allowed (store b i v) (s .ledger) → StoredLast n (after library (store b i v) s) b i v
     pictured : (s : State) (text : List ℕ) → Run library n (after library (call (read text)) s) → Done (answerTo library (call (read text)) s)

@@ -1,30 +1,42 @@
 -- What a text says, by its first line and its frames; and what comes of it for an arena.
-use Prim.Native.Nat.{ℕ, _+_, _≤_, _<_}
+use Prim.Native.Nat.{ℕ, _≤_}
 use mathlib.Core.Path.{_≡_, refl, sym, ap, _∙_}
 use mathlib.Core.Logic.{_≢_}
 use mathlib.Core.Bool.{Bool, true, false, cond, _&&_}
-use mathlib.Core.List.{List, [], map}
-use native.Mathlib.Omega.{arith}
+use mathlib.Core.List.{List, [], _++_, map}
 use lib.ListN.{length, take, drop}
-use lib.Dec.{eqb}
 use borrow.Author.Tests.{eq-eqb, ne-eqb}
-use Rattle.layout.specs.Numbers.{lawful, greatestLength}
+use Rattle.layout.specs.Numbers.{lawful}
 use Rattle.layout.specs.Reasons.{arenaGate}
 use Rattle.layout.specs.declared.Gate.the-variants.{Open, Shut}
 use Rattle.layout.specs.declared.Reason.{Reason}
 use Rattle.layout.specs.declared.Reason.the-variants.{Length, Frame}
-use Rattle.layout.proofs.Bools.{lawful-bounds}
 use Rattle.digits.specs.Digits.{upper}
-use Rattle.rules.specs.Answers.{Gives, success, refusal, settle, pass, done, refused}
-use Rattle.rules.specs.Pictures.{sizeLine, pictureLength, lineLength, Said, bad, good, standingCount, standing, same, said}
-use Rattle.rules.specs.Calls.{readInto, readOn}
+use Rattle.rules.specs.Answers.{Answer, Gives, success, refusal}
+use Rattle.rules.specs.Pictures.{sizeLine, framesFrom, framesFor, pictureOf, pictureLength, lineLength, Said, bad, good, standingCount, standing}
+use Rattle.rules.specs.Pictures.{same, said}
+use Rattle.rules.specs.Calls.{readOn}
 use Rattle.rules.proofs.Gates.{unlawful-gate}
 use Rattle.rules.proofs.Pictures.{line-length, standing-count}
-use Rattle.rules.proofs.Frames.{goesOn, picture-parts}
+use Rattle.rules.proofs.Frames.{same-split}
 use Rattle.rules.proofs.Saying.{other-length-bad}
 use Rattle.frames.specs.Lines.{hasLine}
-use Rattle.picture.specs.Reading.{ReadsFrames, Finds, acceptOn}
+use Rattle.picture.specs.Decoding.{holdsFrames, ReadsFrames, Finds, Accepts}
 use Rattle.picture.specs.declared.reading.Found.the-variants.{Words, Bad}
+
+-- ---- a whole text: its first line, and then the frames
+
+picture-parts : (text : List ℕ)
+    → same (map upper text) (pictureOf (standing text))
+    ≡ (same (map upper (take (lineLength 0) text)) (sizeLine (standingCount text)) && holdsFrames 0 (standingCount text) (drop (lineLength 0) text))
+unfolding pictureOf holdsFrames
+picture-parts text =
+    let n = standingCount text in
+    let long : length (standing text) ≡ n = standing-count (framesFor n) n (drop (lineLength 0) text) refl in
+    ap (λ (m : ℕ). same (map upper text) (sizeLine m ++ framesFrom (framesFor m) 0 (standing text))) long
+    ∙ same-split text (sizeLine n) (framesFrom (framesFor n) 0 (standing text))
+    ∙ ap (λ (m : ℕ). same (map upper (take m text)) (sizeLine n) && same (map upper (drop m text)) (framesFrom (framesFor n) 0 (standing text)))
+    (line-length 6 n [])
 
 -- ---- what is found of a text
 
@@ -33,14 +45,14 @@ module _ (text buffer : List ℕ) where
   finds-other-length n = rw (other-length-bad text n) tt
 
   -- the first line and the frames decide
-  said-parts : said text ≡ cond (hasLine (sizeLine (standingCount text)) text && goesOn 0 (standingCount text) (drop (lineLength 0) text))
+  said-parts : said text ≡ cond (hasLine (sizeLine (standingCount text)) text && holdsFrames 0 (standingCount text) (drop (lineLength 0) text))
       (good (standing text)) bad
   unfolding said hasLine
   said-parts =
       let n = standingCount text in
       let long : lineLength 0 ≡ length (sizeLine n) = sym (line-length 6 n []) in
       ap (λ (b : Bool). cond b (good (standing text)) bad)
-      (picture-parts text ∙ ap (λ (k : ℕ). same (map upper (take k text)) (sizeLine n) && goesOn 0 n (drop (lineLength 0) text)) long)
+      (picture-parts text ∙ ap (λ (k : ℕ). same (map upper (take k text)) (sizeLine n) && holdsFrames 0 n (drop (lineLength 0) text)) long)
 
   pub finds-no-line : hasLine (sizeLine (standingCount text)) text ≡ false → Finds (said text) Bad buffer
   finds-no-line e = let q : said text ≡ bad = said-parts ∙ rw e in rw q tt
@@ -70,47 +82,32 @@ pub reads-bad : (text a buffer : List ℕ) → Finds (said text) Bad buffer → 
 unfolding readOn
 reads-bad text a buffer f = rw (found-bad (said text) buffer f) (record { answers = refl; leaves = refl })
 
--- words that a buffer begins with, if they can be an arena's, are accepted as they would be by themselves
-accept-as : (ws buffer a : List ℕ) → (length ws ≤ greatestLength → take (length ws) buffer ≡ ws)
-    → acceptOn (length ws) buffer a ≡ settle 0 a (readInto (length a) (good ws))
-unfolding acceptOn
-accept-as ws buffer a there = go (lawful (length ws)) refl
-  where
-    go : (l : Bool) → lawful (length ws) ≡ l
-        → settle 0 a
-        (cond (eqb (length ws) (length a)) (cond l (pass (arenaGate (take (length ws) buffer)) (done [] (take (length ws) buffer))) (refused Length))
-        (refused Length))
-        ≡ settle 0 a (cond (eqb (length ws) (length a)) (pass (arenaGate ws) (done [] ws)) (refused Length))
-    go true e = rw (there (lawful-bounds (length ws) e .2))
-    go false e = rw (unlawful-gate ws e)
-
 -- words that were found are accepted just where the text is read
-pub reads-words : (text a buffer : List ℕ) (n : ℕ) → Finds (said text) (Words n) buffer → greatestLength ≤ length buffer
-    → acceptOn n buffer a ≡ readOn text a
+pub reads-words : (text a buffer : List ℕ) (n : ℕ) {answer : Answer} {after : List ℕ} → Finds (said text) (Words n) buffer
+    → Accepts n buffer a answer after → Gives (readOn text a) answer after
 unfolding readOn
-reads-words text a buffer n f room =
-    let (ws, is, long, there) = found-words (said text) n buffer f in
-    ap (λ (k : ℕ). acceptOn k buffer a) long
-    ∙ accept-as ws buffer a (λ h. ap (λ (k : ℕ). take k buffer) (sym long) ∙ there (omega arith))
-    ∙ ap (λ (s : Said). settle 0 a (readInto (length a) s)) (sym is)
-
--- ---- words are accepted
+reads-words text a buffer n f accepts = accepts (said text) f
 
 module _ (n : ℕ) (buffer a : List ℕ) where
-  pub accept-other-length : n ≢ length a → Gives (acceptOn n buffer a) (refusal 0 Length) a
-  unfolding acceptOn
-  accept-other-length other = rw (ne-eqb n (length a) other) (record { answers = refl; leaves = refl })
+  pub accept-other-length : n ≢ length a → Accepts n buffer a (refusal 0 Length) a
+  accept-other-length other found f =
+      let (ws, is, long, there) = found-words found n buffer f in
+      rw (is, ne-eqb (length ws) (length a) (λ e. other (long ∙ e))) (record { answers = refl; leaves = refl })
 
   module _ (same-length : n ≡ length a) where
-    pub accept-unlawful : lawful n ≡ false → Gives (acceptOn n buffer a) (refusal 0 Length) a
-    unfolding acceptOn
-    accept-unlawful l = rw (eq-eqb n (length a) same-length, l) (record { answers = refl; leaves = refl })
+    pub accept-unlawful : lawful n ≡ false → Accepts n buffer a (refusal 0 Length) a
+    accept-unlawful l found f =
+        let (ws, is, long, there) = found-words found n buffer f in
+        rw (is, eq-eqb (length ws) (length a) (sym long ∙ same-length), unlawful-gate ws (ap lawful (sym long) ∙ l))
+        (record { answers = refl; leaves = refl })
 
-    module _ (l : lawful n ≡ true) where
-      pub accept-shut : (why : Reason) → Shut why ≡ arenaGate (take n buffer) → Gives (acceptOn n buffer a) (refusal 0 why) a
-      unfolding acceptOn
-      accept-shut why shut = rw (eq-eqb n (length a) same-length, l, ← shut) (record { answers = refl; leaves = refl })
+    module _ (fits : n ≤ length buffer) where
+      pub accept-shut : (why : Reason) → Shut why ≡ arenaGate (take n buffer) → Accepts n buffer a (refusal 0 why) a
+      accept-shut why shut found f =
+          let (ws, is, long, there) = found-words found n buffer f in
+          rw (is, eq-eqb (length ws) (length a) (sym long ∙ same-length), ← there fits, ← shut) (record { answers = refl; leaves = refl })
 
-      pub accept-open : (after : List ℕ) → Open ≡ arenaGate (take n buffer) → after ≡ take n buffer → Gives (acceptOn n buffer a) (success []) after
-      unfolding acceptOn
-      accept-open after opens copied = rw (eq-eqb n (length a) same-length, l, ← opens) (record { answers = refl; leaves = copied })
+      pub accept-open : (after : List ℕ) → Open ≡ arenaGate (take n buffer) → after ≡ take n buffer → Accepts n buffer a (success []) after
+      accept-open after opens copied found f =
+          let (ws, is, long, there) = found-words found n buffer f in
+          rw (is, eq-eqb (length ws) (length a) (sym long ∙ same-length), ← there fits, ← opens) (record { answers = refl; leaves = copied })

@@ -1,10 +1,10 @@
 -- A picture that is written line by line.
-use Prim.Native.Nat.{ℕ, _+_, _-_, _≤_, _<_, min}
+use Prim.Native.Nat.{ℕ, _+_, _-_, _≤_, _<_}
 use mathlib.Core.Path.{_≡_, refl, sym, ap, ap₂, _∙_}
 use mathlib.Core.List.{List, [], _∷_, _++_, append-assoc, append-nil}
 use native.Mathlib.Omega.{arith}
 use lib.ListN.{length, take, drop, length-append, length-drop}
-use lib.Seq.{drop-drop, sets-eq}
+use lib.Seq.{drop-drop}
 use borrow.Author.Tests.{lt-leb, le-leb}
 use Rattle.layout.specs.Reasons.{number, arenaGate}
 use Rattle.layout.specs.declared.Gate.the-variants.{Open, Shut}
@@ -12,7 +12,7 @@ use Rattle.layout.specs.declared.Reason.{Reason}
 use Rattle.layout.specs.declared.Reason.the-variants.{TextRoom}
 use Rattle.layout.proofs.Reasons.{number-positive}
 use Rattle.digits.specs.Putting.{Puts}
-use Rattle.digits.proofs.Putting.{puts-then, put-length}
+use Rattle.digits.proofs.Putting.{puts-then, put-front, put-length}
 use Rattle.rules.specs.Answers.{success, refusal}
 use Rattle.rules.specs.Pictures.{sizeLine, frame, framesFrom, framesFor, pictureOf, pictureLength, lineLength}
 use Rattle.rules.specs.Calls.{writeOn}
@@ -76,7 +76,7 @@ module _ (words room : List ℕ) (start : ℕ) where
         puts-then 0 start at (sizeLine (length words)) (framesFrom (framesFor (length words)) 0 words) begun room text first frames
 
 -- a picture has room where its frames have it behind the first line
-pub frames-room : (words : List ℕ) (start : ℕ) → start ≡ 7 → start + length (framesFrom (framesFor (length words)) 0 words) ≡ length (pictureOf words)
+pub frames-room : (words : List ℕ) (start : ℕ) → start ≡ lineLength 0 → start + length (framesFrom (framesFor (length words)) 0 words) ≡ length (pictureOf words)
 frames-room words start e = omega (arith, picture-length words, frames-length (framesFor (length words)) 0 words refl)
 
 -- ---- what comes of that
@@ -108,10 +108,8 @@ module _ (a text : List ℕ) where
     writes-put {end} {after} room put =
         let fits : length (pictureOf a) ≤ length text = omega (arith, picture-length a) in
         let enough = le-leb (length (pictureOf a)) (length text) fits in
-        let ended : end ≡ length (pictureOf a) = put .ends ∙ omega arith in
-        let from : 0 + length (pictureOf a) ≡ length (pictureOf a) = omega arith in
+        let (ended, whole) = put-front put fits in
         record {
           gives = rw (← opens, enough, ended) (record { answers = refl; leaves = refl });
-          fills = put .says ∙ sets-eq (pictureOf a) text 0 (omega arith) ∙ ap (λ (k : ℕ). pictureOf a ++ drop k text) from
-              ∙ sym (text-filled a text (rw (← opens, enough)));
+          fills = whole ∙ sym (text-filled a text (rw (← opens, enough)));
         }

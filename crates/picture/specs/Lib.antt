@@ -1,2 +1,2 @@
 pub mod Writing
-pub mod Reading
+pub mod Decoding

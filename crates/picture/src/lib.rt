@@ -16,7 +16,7 @@ ghost use Rattle.rules.specs.Answers.{Gives};
 ghost use Rattle.rules.specs.Calls.{readOn};
 ghost use Rattle.answers.specs.Readings.{finishNumbers, writtenNumbers};
 ghost use Rattle.picture.specs.Writing.{Writes};
-ghost use Rattle.picture.specs.Reading.{acceptOn};
+ghost use Rattle.picture.specs.Decoding.{Accepts};
 
 // Writes the picture of a sound arena to the start of the text, whose rest stays, and answers how many bytes it has.
 pub fn write(a: &[u32], text: &mut [u8]) -> Written
@@ -44,10 +44,11 @@ pub fn read(text: &[u8], a: &mut [u32]) -> Finish
     }
 }
 
-// Makes the arena the first `n` words, if it has as many and they are a sound arena.
+// Makes the arena the first `n` words, if it has as many and they are a sound arena. That so many words can be an
+// arena's is asked before the walk asks it, since no more of them are there.
 fn accept(words: &[u32], n: usize, a: &mut [u32]) -> Finish
     requires { ⌜ greatestLength ≤ length (now words) ⌝ }
-    ensures { λ r. ⌜ Gives (acceptOn n (now (words .entry)) (now (a .entry))) (finishNumbers r) (now (a .exit)) ⌝ }
+    ensures { λ r. ⌜ Accepts n (now (words .entry)) (now (a .entry)) (finishNumbers r) (now (a .exit)) ⌝ }
 {
     if n != a.len() {
         return Finish::Refused(Reason::Length);

@@ -4,7 +4,7 @@ ghost use Prim.Native.Nat.{_+_, _≤_, _<_};
 ghost use lib.ListN.{length};
 ghost use Rattle.digits.specs.Digits.{fourDigitValues};
 ghost use Rattle.rules.specs.Pictures.{frameWords, lineLength, pictureLength, said};
-ghost use Rattle.picture.specs.Reading.{ReadsFrame, Slot, ReadsFrames, Finds};
+ghost use Rattle.picture.specs.Decoding.{ReadsFrame, Slot, ReadsFrames, Finds};
 
 // How many words a text says, or that it is bad.
 pub(crate) enum Found {
@@ -61,7 +61,7 @@ pub(crate) fn decode(text: &[u8], buffer: &mut [u32]) -> Found
     if text.len() < frames::line_length(0) {
         return Found::Bad;
     }
-    let n = (digits::four_at(text, 2) % 65536) as usize;
+    let n = frames::words_told(text);
     if text.len() != frames::picture_length(n) {
         return Found::Bad;
     }

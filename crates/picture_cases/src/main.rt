@@ -8,7 +8,7 @@ use layout::Reason;
 use layout::wide;
 use libc::STDIN_FILENO;
 use libc::STDOUT_FILENO;
-ghost use Rattle.picture_cases.specs.Rooms.{Rooms};
+ghost use Rattle.picture_cases.specs.CaseRooms.{CaseRooms};
 
 // The most bytes of a text, and the most words of an arena: more than any picture has, and than is lawful.
 const MOST_BYTES: usize = 600000;
@@ -32,7 +32,7 @@ fn answer(call: u32, text: &mut [u8], a: &mut [u32]) -> Numbers {
 
 // Writes code and field, the text and the arena; false where they cannot be written.
 fn write_reply(numbers: Numbers, text: &[u8], a: &[u32], bytes: &mut [u8]) -> bool
-    requires { ⌜ Rooms (now a) (now bytes) ⌝ }
+    requires { ⌜ CaseRooms (now a) (now bytes) ⌝ }
 {
     let fields = numbers.fields;
     let field = fields[0];
@@ -48,7 +48,7 @@ fn write_reply(numbers: Numbers, text: &[u8], a: &[u32], bytes: &mut [u8]) -> bo
 
 // Reads the text and the arena of a case, makes its call and writes the reply; false where that cannot be done.
 fn run_call(call: u32, text: &mut [u8], a: &mut [u32], bytes: &mut [u8]) -> bool
-    requires { ⌜ Rooms (now a) (now bytes) ⌝ }
+    requires { ⌜ CaseRooms (now a) (now bytes) ⌝ }
 {
     if io::read_full(STDIN_FILENO, text) < text.len() {
         return false;
@@ -60,10 +60,10 @@ fn run_call(call: u32, text: &mut [u8], a: &mut [u32], bytes: &mut [u8]) -> bool
     write_reply(numbers, text, a, bytes)
 }
 
-// Runs one case, whose text and arena are read to the start of `page` and `space`; false where there is no whole case, where
-// they are too long for these, or where the reply cannot be written.
+// Runs one case, whose text and arena are read to the start of `page` and `space`; false where there is no whole case,
+// where they are too long for these, or where the reply cannot be written.
 fn run_case(page: &mut [u8], space: &mut [u32], bytes: &mut [u8]) -> bool
-    requires { ⌜ Rooms (now space) (now bytes) ⌝ }
+    requires { ⌜ CaseRooms (now space) (now bytes) ⌝ }
 {
     let mut head = [0u32; 3];
     if !wire::read_words(&mut head, bytes) {
@@ -88,7 +88,7 @@ fn run_case(page: &mut [u8], space: &mut [u32], bytes: &mut [u8]) -> bool
 // Runs cases until one cannot be run. A proved loop has to end, so turns are counted down from a number that no run
 // uses up.
 fn run_cases(page: &mut [u8], space: &mut [u32], bytes: &mut [u8])
-    requires { ⌜ Rooms (now space) (now bytes) ⌝ }
+    requires { ⌜ CaseRooms (now space) (now bytes) ⌝ }
 {
     let mut turns = u64::MAX;
     while turns > 0 && run_case(page, space, bytes) {

@@ -1,14 +1,14 @@
 -- The text of a reply, put part by part.
 use Prim.Native.Nat.{ℕ, _+_, _*_, _<_}
 use mathlib.Core.Path.{_≡_, refl}
-use mathlib.Core.List.{List, [], _∷_, _++_}
+use mathlib.Core.List.{List}
 use native.Mathlib.Omega.{arith}
 use lib.ListN.{length, getD, take, set}
 use lib.Seq.{sets}
 use Rattle.rules.specs.Answers.{Answer}
 use Rattle.digits.specs.Digits.{lineEnd, twoDigits, fourDigits}
 use Rattle.digits.specs.Putting.{Puts}
-use Rattle.digits.proofs.Putting.{puts-then, in-length, in-on}
+use Rattle.digits.proofs.Putting.{puts-line, in-length, in-on}
 use Rattle.replies.specs.Boards.{fieldsText, replyText}
 
 -- a code and fields as an answer
@@ -34,7 +34,5 @@ pub reply-put : (kind code at end : ℕ) (values room one two three : List ℕ) 
     → Puts at (replyText kind (numbers code values)) room (end + 1) (set three end lineEnd)
 unfolding replyText
 reply-put kind code at end values room one two three first second fields =
-    puts-then at (at + 2) (end + 1) (twoDigits kind) (twoDigits code ++ (fieldsText values ++ lineEnd ∷ [])) room one _ first
-    (puts-then (at + 2) (at + 4) (end + 1) (twoDigits code) (fieldsText values ++ lineEnd ∷ []) one two _
-    (record { ends = omega arith; says = second .says })
-    (puts-then (at + 4) end (end + 1) (fieldsText values) (lineEnd ∷ []) two three _ fields (record { ends = refl; says = refl })))
+    puts-line at (at + 2) (at + 4) end (twoDigits kind) (twoDigits code) (fieldsText values) room one two three first
+    (record { ends = omega arith; says = second .says }) fields

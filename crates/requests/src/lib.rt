@@ -1,4 +1,5 @@
 // Request lines: the place in one that is not at its end yet, and what a line that ends there asks for.
+use digits::FOUR_DIGIT_VALUES;
 ghost use mathlib.Core.Path.{_≡_};
 ghost use mathlib.Core.Bool.{cond};
 ghost use lib.Dec.{eqb};
@@ -12,9 +13,6 @@ const NO_FIELD: usize = 2;
 const ONE_FIELD: usize = NO_FIELD + 4;
 
 const TWO_FIELDS: usize = ONE_FIELD + 4;
-
-// What four digits, a field, make is below this number.
-const FOUR_DIGIT_VALUES: u64 = 65536;
 
 // What nine digits make is below this number.
 const NINE_DIGIT_VALUES: u64 = FOUR_DIGIT_VALUES * FOUR_DIGIT_VALUES * 16;

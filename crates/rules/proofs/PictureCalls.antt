@@ -1,5 +1,5 @@
 -- What comes of writing a picture and of reading one, case by case; and that one undoes the other.
-use Prim.Native.Nat.{ℕ, _≤_, _<_}
+use Prim.Native.Nat.{ℕ, _≤_}
 use mathlib.Core.Path.{_≡_, refl, sym, ap, _∙_}
 use mathlib.Core.Logic.{_≢_}
 use mathlib.Core.Bool.{Bool, true, false, cond}
@@ -9,18 +9,17 @@ use lib.ListN.{length, take, drop, length-append, length-drop, length-map}
 use lib.Seq.{take-append-seam}
 use lib.Dec.{leb, eqb}
 use borrow.Author.Tests.{leb-true, leb-false, le-leb, lt-leb, eqb-true, eqb-false, eq-eqb, ne-eqb}
-use Rattle.layout.specs.Numbers.{lawful, greatestLength, wordValues}
+use Rattle.layout.specs.Numbers.{wordValues}
 use Rattle.layout.specs.Bounds.{AllBelow}
 use Rattle.layout.specs.Walk.{sound}
 use Rattle.layout.specs.Reasons.{number, arenaGate}
 use Rattle.layout.specs.declared.Gate.{Gate}
 use Rattle.layout.specs.declared.Reason.{Reason}
 use Rattle.layout.specs.declared.Reason.the-variants.{Length, Damaged, Frame, TextRoom}
-use Rattle.layout.proofs.Reasons.{number-positive}
-use Rattle.layout.proofs.Round.{sound-lawful, sound-chunks}
+use Rattle.layout.proofs.Round.{sound-chunks}
 use Rattle.digits.specs.Digits.{upper}
-use Rattle.rules.specs.Answers.{Answer, Outcome, success, done, refused, settle, pass}
-use Rattle.rules.specs.Pictures.{pictureOf, Says, Said, bad, good, said}
+use Rattle.rules.specs.Answers.{Answer, success, done, refused, settle, pass}
+use Rattle.rules.specs.Pictures.{pictureOf, Says, Said, good, said}
 use Rattle.rules.specs.Calls.{writeOn, textAfter, readInto, readOn}
 use Rattle.rules.specs.Causes.{WriteRefused, ReadRefused, no-length, unsound, short-text, bad-text, other-length}
 use Rattle.rules.proofs.Gates.{Checked, unlawful, damaged, whole, checked, unlawful-gate, damaged-gate, sound-gate}
@@ -31,18 +30,18 @@ use Rattle.rules.proofs.Saying.{Saying, says, nothing, saying, said-say
 -- ---- to write one
 
 module _ (a text : List ℕ) where
-  pub data Writes : List ℕ → List ℕ → Type 0 where
-    writes : sound a ≡ true → length (pictureOf a) ≤ length text → Writes (length (pictureOf a) ∷ []) a
+  pub data Draws : List ℕ → List ℕ → Type 0 where
+    draws : sound a ≡ true → length (pictureOf a) ≤ length text → Draws (length (pictureOf a) ∷ []) a
 
-  pub write-case : Case 1 a (WriteRefused a text) Writes (writeOn a text)
+  pub write-case : Case 1 a (WriteRefused a text) Draws (writeOn a text)
   unfolding writeOn
   write-case = go (checked a) (leb (length (pictureOf a)) (length text)) refl
     where
       go : {arena : Gate} → Checked a arena → (room : Bool) → leb (length (pictureOf a)) (length text) ≡ room
-          → Case 1 a (WriteRefused a text) Writes (settle 1 a (pass arena (cond room (done (length (pictureOf a) ∷ []) a) (refused TextRoom))))
+          → Case 1 a (WriteRefused a text) Draws (settle 1 a (pass arena (cond room (done (length (pictureOf a) ∷ []) a) (refused TextRoom))))
       go (unlawful e) room r = refuses Length (no-length e)
       go (damaged e f) room r = refuses Damaged (unsound e f)
-      go (whole e) true r = does (writes e (leb-true _ _ r))
+      go (whole e) true r = does (draws e (leb-true _ _ r))
       go (whole e) false r = refuses TextRoom (short-text e (leb-false _ _ r))
 
   pub write-gives : (why : Reason) → WriteRefused a text why → writeOn a text .answer .code ≡ number why
@@ -51,8 +50,8 @@ module _ (a text : List ℕ) where
   write-gives why (unsound e f) = rw (damaged-gate a e f)
   write-gives why (short-text e l) = rw (sound-gate a e, lt-leb _ _ l)
 
-  pub writes-same : (values after : List ℕ) → Writes values after → after ≡ a
-  writes-same values after (writes e r) = refl
+  pub writes-same : (values after : List ℕ) → Draws values after → after ≡ a
+  writes-same values after (draws e r) = refl
 
   -- the lent text: it is filled from its start, its rest and its length stay; a refusal leaves it as it was
 
@@ -65,11 +64,11 @@ module _ (a text : List ℕ) where
   text-filled z = rw (eq-eqb _ _ z)
 
   -- a writing that is done has a sound arena, and room
-  pub write-room : writeOn a text .answer .code ≡ 0 → (sound a ≡ true) × (length (pictureOf a) ≤ length text)
-  write-room z = go (done-does write-case z)
+  pub written-room : writeOn a text .answer .code ≡ 0 → (sound a ≡ true) × (length (pictureOf a) ≤ length text)
+  written-room z = go (done-does write-case z)
     where
-      go : {values after : List ℕ} → Writes values after → (sound a ≡ true) × (length (pictureOf a) ≤ length text)
-      go (writes e r) = (e, r)
+      go : {values after : List ℕ} → Draws values after → (sound a ≡ true) × (length (pictureOf a) ≤ length text)
+      go (draws e r) = (e, r)
 
   pub text-length : length (textAfter a text) ≡ length text
   text-length = go (eqb (writeOn a text .answer .code) 0) refl
@@ -78,7 +77,7 @@ module _ (a text : List ℕ) where
       go true e =
           let z = eqb-true _ _ e in
           ap length (text-filled z) ∙ length-append (pictureOf a) (drop (length (pictureOf a)) text)
-          ∙ omega (arith, length-drop (length (pictureOf a)) text, write-room z)
+          ∙ omega (arith, length-drop (length (pictureOf a)) text, written-room z)
       go false e = ap length (text-unchanged (eqb-false _ _ e))
 
   -- what was written is the picture
@@ -94,21 +93,21 @@ module _ (a text : List ℕ) where
 -- ---- to read one
 
 module _ (text a : List ℕ) where
-  pub data Reads : List ℕ → List ℕ → Type 0 where
-    reads : (ws : List ℕ) → Says text ws → length ws ≡ length a → sound ws ≡ true → Reads [] ws
+  pub data Takes : List ℕ → List ℕ → Type 0 where
+    takes : (ws : List ℕ) → Says text ws → length ws ≡ length a → sound ws ≡ true → Takes [] ws
 
-  pub read-case : Case 0 a (ReadRefused text a) Reads (readOn text a)
+  pub read-case : Case 0 a (ReadRefused text a) Takes (readOn text a)
   unfolding readOn
   read-case = go (saying text)
     where
       told : (ws : List ℕ) → Says text ws → {arena : Gate} → Checked ws arena → (fits : Bool) → eqb (length ws) (length a) ≡ fits
-          → Case 0 a (ReadRefused text a) Reads (settle 0 a (cond fits (pass arena (done [] ws)) (refused Length)))
+          → Case 0 a (ReadRefused text a) Takes (settle 0 a (cond fits (pass arena (done [] ws)) (refused Length)))
       told ws s c false e = refuses Length (other-length ws s (eqb-false _ _ e))
       told ws s (unlawful l) true e = refuses Length (no-length ws s l)
       told ws s (damaged l d) true e = refuses Damaged (unsound ws s (eqb-true _ _ e) l d)
-      told ws s (whole d) true e = does (reads ws s (eqb-true _ _ e) d)
+      told ws s (whole d) true e = does (takes ws s (eqb-true _ _ e) d)
 
-      go : {found : Said} → Saying text found → Case 0 a (ReadRefused text a) Reads (settle 0 a (readInto (length a) found))
+      go : {found : Said} → Saying text found → Case 0 a (ReadRefused text a) Takes (settle 0 a (readInto (length a) found))
       go (says ws s) = told ws s (checked ws) (eqb (length ws) (length a)) refl
       go (nothing none) = refuses Frame (bad-text none)
 
@@ -132,16 +131,16 @@ module _ (text a : List ℕ) where
       go false = refl
   read-gives why (unsound ws s e l d) = rw (said-reads ws s, eq-eqb _ _ e, damaged-gate ws l d)
 
-  pub reads-kept : (values after : List ℕ) → Reads values after → Kept a after
-  reads-kept values after (reads ws s e d) = record { same-length = e; still-sound = λ was. d }
+  pub reads-kept : (values after : List ℕ) → Takes values after → Kept a after
+  reads-kept values after (takes ws s e d) = record { same-length = e; still-sound = λ was. d }
 
   -- a reading that is done leaves the words that its text says; they are as many as before, and sound
   pub read-leaves : readOn text a .answer .code ≡ 0
       → Says text (readOn text a .words) × (length (readOn text a .words) ≡ length a) × (sound (readOn text a .words) ≡ true)
   read-leaves z = go (done-does read-case z)
     where
-      go : {values after : List ℕ} → Reads values after → Says text after × (length after ≡ length a) × (sound after ≡ true)
-      go (reads ws s e d) = (s, e, d)
+      go : {values after : List ℕ} → Takes values after → Says text after × (length after ≡ length a) × (sound after ≡ true)
+      go (takes ws s e d) = (s, e, d)
 
   -- a text that says a sound arena of this length is read, and its words are the arena
   pub reads-sound : (ws : List ℕ) → Says text ws → length ws ≡ length a → sound ws ≡ true → readOn text a ≡ record { answer = success []; words = ws }
@@ -153,7 +152,7 @@ module _ (text a : List ℕ) where
 pub written-read : (a text other : List ℕ) → AllBelow wordValues a → length other ≡ length a → writeOn a text .answer .code ≡ 0
     → readOn (take (length (pictureOf a)) (textAfter a text)) other ≡ record { answer = success []; words = a }
 written-read a text other fits e z =
-    let (is-sound, room) = write-room a text z in
+    let (is-sound, room) = written-room a text z in
     let most = sound-chunks a is-sound .law .most in
     rw (picture-there a text z)
     (reads-sound (pictureOf a) other a (picture-says a (omega arith) fits) (sym e) is-sound)

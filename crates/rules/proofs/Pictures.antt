@@ -1,6 +1,6 @@
 -- How long a picture is, that it is in upper case, and that its words stand at their places.
-use Prim.Native.Nat.{ℕ, zero, suc, _+_, _-_, _*_, _/_, _%_, _≤_, _<_, min}
-use mathlib.Core.Path.{_≡_, refl, sym, ap, ap₂, _∙_}
+use Prim.Native.Nat.{ℕ, zero, suc, _+_, _-_, _*_, _%_, _<_, min}
+use mathlib.Core.Path.{_≡_, refl, ap, ap₂, _∙_}
 use mathlib.Core.List.{List, [], _∷_, _++_, map, append-assoc}
 use native.Mathlib.Omega.{arith}
 use lib.ListN.{length, take, drop, length-append, length-take, length-drop, take-append-drop}
@@ -10,7 +10,8 @@ use Rattle.layout.specs.Bounds.{AllBelow}
 use Rattle.digits.specs.Digits.{lineEnd, numberOf, upper, fourDigitValues, twoDigits, fourDigits, eightDigits, inDigits}
 use Rattle.digits.proofs.Reading.{four-read, eight-read}
 use Rattle.digits.proofs.Putting.{in-length}
-use Rattle.digits.proofs.Capitals.{Capitals, capitals-append, two-capitals, four-capitals, eight-capitals, in-capitals, number-upper}
+use Rattle.digits.proofs.Capitals.{Capitals, capitals-append, two-capitals, four-capitals, eight-capitals, in-capitals}
+use Rattle.digits.proofs.Capitals.{number-upper, take-upper, drop-upper}
 use Rattle.rules.specs.Pictures.{frameWords, line, sizeLine, frame, framesFrom, framesFor, pictureOf, pictureLength, wordsIn, lineHead, lineLength}
 use Rattle.rules.specs.Pictures.{standingFrom, standingCount, standing}
 
@@ -106,16 +107,6 @@ picture-standing ws counted fits =
 
 -- ---- whatever the case of the letters
 
-pub take-upper : (k : ℕ) (bs : List ℕ) → take k (map upper bs) ≡ map upper (take k bs)
-take-upper zero bs = refl
-take-upper (suc k) [] = refl
-take-upper (suc k) (b ∷ bs) = ap (λ (l : List ℕ). upper b ∷ l) (take-upper k bs)
-
-pub drop-upper : (k : ℕ) (bs : List ℕ) → drop k (map upper bs) ≡ map upper (drop k bs)
-drop-upper zero bs = refl
-drop-upper (suc k) [] = refl
-drop-upper (suc k) (b ∷ bs) = drop-upper k bs
-
 words-upper : (count : ℕ) (text : List ℕ) → wordsIn count (map upper text) ≡ wordsIn count text
 unfolding wordsIn
 words-upper zero text = refl
@@ -137,9 +128,9 @@ standing-upper text =
     let n : standingCount (map upper text) ≡ standingCount text
     = ap (λ (k : ℕ). k % fourDigitValues)
     (ap (λ (bs : List ℕ). numberOf (take 4 bs)) (drop-upper 2 text) ∙ ap numberOf (take-upper 4 (drop 2 text)) ∙ number-upper 0 (take 4 (drop 2 text))) in
-    ap (λ (k : ℕ). standingFrom (framesFor k) k (drop 7 (map upper text))) n
-    ∙ ap (standingFrom (framesFor (standingCount text)) (standingCount text)) (drop-upper 7 text)
-    ∙ frames-upper (framesFor (standingCount text)) (standingCount text) (drop 7 text)
+    ap (λ (k : ℕ). standingFrom (framesFor k) k (drop (lineLength 0) (map upper text))) n
+    ∙ ap (standingFrom (framesFor (standingCount text)) (standingCount text)) (drop-upper (lineLength 0) text)
+    ∙ frames-upper (framesFor (standingCount text)) (standingCount text) (drop (lineLength 0) text)
 
 -- ---- they are words that a picture can have
 

@@ -11,7 +11,8 @@ use borrow.Author.Tests.{eqb-true, eq-eqb}
 use Rattle.layout.specs.Numbers.{wordValues}
 use Rattle.layout.specs.Bounds.{AllBelow}
 use Rattle.digits.specs.Digits.{upper, fourDigitValues}
-use Rattle.rules.specs.Pictures.{framesFor, pictureOf, pictureLength, Says, Said, bad, good, standingFrom, standingCount, standing, same, said}
+use Rattle.rules.specs.Pictures.{framesFor, pictureOf, lineLength, pictureLength, Says, Said, bad, good, standingCount, standing, same}
+use Rattle.rules.specs.Pictures.{said}
 use Rattle.rules.proofs.Pictures.{picture-length, picture-capitals, picture-standing, standing-upper, frames-below, standing-count}
 
 -- ---- the test whether two texts are the same
@@ -47,8 +48,8 @@ module _ (text : List ℕ) where
       let n = standingCount text in
       record {
         is = e;
-        counted = omega (arith, standing-count (framesFor n) n (drop 7 text) refl);
-        fitting = frames-below (framesFor n) n (drop 7 text);
+        counted = omega (arith, standing-count (framesFor n) n (drop (lineLength 0) text) refl);
+        fitting = frames-below (framesFor n) n (drop (lineLength 0) text);
       }
 
   -- what `said` has to do with `Says`, case by case
@@ -76,7 +77,7 @@ module _ (text : List ℕ) where
       go found (nothing none) = refl
       go found (says ws s) =
           let k = standingCount text in
-          let long : length ws ≡ k = ap length (sym (says-standing ws s)) ∙ standing-count (framesFor k) k (drop 7 text) refl in
+          let long : length ws ≡ k = ap length (sym (says-standing ws s)) ∙ standing-count (framesFor k) k (drop (lineLength 0) text) refl in
           absurd (n (sym (length-map text upper) ∙ ap length (s .is) ∙ picture-length ws ∙ ap pictureLength long))
 
   pub said-says : (ws : List ℕ) → (said text ≡ good ws) ↔ Says text ws

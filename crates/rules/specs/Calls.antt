@@ -1,5 +1,5 @@
--- The eleven calls on an arena's words `a`: what each answers, and what each leaves. Reasons are looked for in the order
--- of their numbers.
+-- The eleven calls on an arena's words `a`: what each answers, and what each leaves. Reasons are looked for in the
+-- order of their numbers, but that a text which is no picture is refused before all else.
 use Prim.Native.Nat.{ℕ, _-_}
 use mathlib.Core.List.{List, [], _∷_, _++_}
 use mathlib.Core.Bool.{cond}

@@ -17,8 +17,8 @@ use Rattle.rules.specs.Pictures.{pictureOf, Says}
 abbrev pub Request : List ℕ → ℕ → Type 0
 Request a n = (1 ≤ n) × (n ≤ greatestRequest (length a))
 
--- what the reasons say of a call on the words `a`: all calls but start have the first two, and `block`, `zero`,
--- `large`, `room` and `stuck` are the call's own
+-- what the reasons say of a call on the words `a`: all calls but start, and the two for pictures below, have the first
+-- two like this, and `block`, `zero`, `large`, `room` and `stuck` are the call's own
 abbrev pub Grounds : List ℕ → (block zero large room stuck : Type 0) → Reason → Type 0
 Grounds a block zero large room stuck Length = lawful (length a) ≡ false
 Grounds a block zero large room stuck Damaged = (lawful (length a) ≡ true) × (sound a ≡ false)

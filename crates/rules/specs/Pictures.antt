@@ -39,16 +39,27 @@ framesFor n = (n + (frameWords - 1)) / frameWords
 unfoldable pub pictureOf : List ℕ → List ℕ
 pictureOf ws = sizeLine (length ws) ++ framesFrom (framesFor (length ws)) 0 ws
 
--- the bytes of a line with so many words, and those of a picture, as a formula of N: the theorem is `picture-length`
-abbrev pub lineLength : ℕ → ℕ
-lineLength count = 7 + count * 8
+-- ---- how long it is: the theorem is `picture-length`
 
+-- the digits of a word, and the bytes of a line before its words
+abbrev pub wordDigits : ℕ
+wordDigits = 8
+
+abbrev pub lineHead : ℕ
+lineHead = 6
+
+-- the bytes of a line with so many words
+abbrev pub lineLength : ℕ → ℕ
+lineLength count = lineHead + count * wordDigits + 1
+
+-- those of a picture, as a formula of N: its lines without their words, and the words
 abbrev pub pictureLength : ℕ → ℕ
-pictureLength n = lineLength n + framesFor n * 7
+pictureLength n = (1 + framesFor n) * lineLength 0 + n * wordDigits
 
 -- ---- what a text says
 
--- a text says these words: with its letters as capitals it is their picture, and they are words that a picture can have
+-- a text says these words: with its letters a to f as capitals it is their picture, and they are words that a picture
+-- can have, not too many for four digits and each not too large for eight
 pub record Says (text ws : List ℕ) : Type 0 where
   pub is : map upper text ≡ pictureOf ws
   pub counted : length ws < fourDigitValues
@@ -61,14 +72,11 @@ pub data Said : Type 0 where
 
 -- ---- which they are: the theorem `said-says` is that `said` finds the words that `Says` speaks of
 
--- so many words at the start of a text, eight bytes each, whatever these are
+-- so many words at the start of a text, whatever bytes stand there: if one is no digit the number may be too large, and
+-- the text is bad anyway
 unfoldable pub wordsIn : ℕ → List ℕ → List ℕ
 wordsIn zero text = []
-wordsIn (suc more) text = numberOf (take 8 text) % wordValues ∷ wordsIn more (drop 8 text)
-
--- the bytes of a line before its words
-abbrev pub lineHead : ℕ
-lineHead = 6
+wordsIn (suc more) text = numberOf (take wordDigits text) % wordValues ∷ wordsIn more (drop wordDigits text)
 
 -- the words at their places in so many frames, of which `left` are left
 unfoldable pub standingFrom : ℕ → ℕ → List ℕ → List ℕ

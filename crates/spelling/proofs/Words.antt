@@ -41,6 +41,15 @@ pub no-bytes : (ws : List ℕ) (i : ℕ) → length ws ≤ i → bytesOf (drop i
 unfolding bytesOf
 no-bytes ws i h = rw (drop-of-length-le ws h)
 
+-- bytes spell a quarter as many words
+pub words-spelled : (bytes : List ℕ) → length (wordsOf bytes) ≡ length bytes / 4
+unfolding wordsOf
+words-spelled [] = refl
+words-spelled (a ∷ []) = refl
+words-spelled (a ∷ (b ∷ [])) = refl
+words-spelled (a ∷ (b ∷ (c ∷ []))) = refl
+words-spelled (a ∷ (b ∷ (c ∷ (d ∷ rest)))) = omega (arith, words-spelled rest)
+
 -- ---- one undoes the other
 
 -- the word that the four bytes of a word spell

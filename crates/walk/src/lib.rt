@@ -133,7 +133,7 @@ pub fn fault(n: usize) -> Reason
     Reason::Length
 }
 
-// The reasons for which every call but start refuses an arena: Length, then Damaged.
+// The reasons for which words that have to be a sound arena are refused: Length, then Damaged.
 pub fn check_arena(a: &[u32]) -> Gate
     ensures { λ r. ⌜ r ≡ arenaGate (now (a .entry)) ⌝ }
 {

@@ -4,10 +4,6 @@ use Rattle.desk.specs.Checks.{gateNumber}
 use borrow.Author.Needs.{needs}
 use Rattle.desk.proofs.check.Statement.{statement}
 use Rattle.desk.proofs.check.Tie as tie
-use Rattle.desk.proofs.check.Reads as reads
-use Rattle.desk.proofs.check.Lts as lts
-use Rattle.desk.proofs.check_words.Reads as check-words-reads
-use Rattle.layout.proofs.number.Reads as number-reads
 
 check-words-requires : tie.Need-check-words-requires
 check-words-requires c κs = search needs

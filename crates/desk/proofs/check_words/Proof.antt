@@ -7,14 +7,10 @@ use lib.Seq.{length-take-le}
 use borrow.Author.Tests.{not-true, not-false}
 use Rattle.layout.specs.Numbers.{greatestLength}
 use Rattle.layout.proofs.Bools.{lawful-bounds}
-use Rattle.desk.proofs.Checks.{odd-bytes, whole-words, unlawful-words}
+use Rattle.desk.proofs.Checks.{bytes-over, whole-words, unlawful-words}
 use borrow.Author.Needs.{needs}
 use Rattle.desk.proofs.check_words.Statement.{statement}
 use Rattle.desk.proofs.check_words.Tie as tie
-use Rattle.desk.proofs.check_words.Reads as reads
-use Rattle.desk.proofs.check_words.Lts as lts
-use Rattle.desk.proofs.load_and_check.Reads as load-and-check-reads
-use Rattle.layout.proofs.is_lawful.Reads as is-lawful-reads
 
 -- the call; the words of an arena are not too many; and so many are lent
 abbrev called : tie.Else2 → tie.Start
@@ -33,7 +29,7 @@ fours : (d : tie.Else1) → length (d .before .before .args .spelled .now) % 4 �
 fours d = omega arith
 
 returns : tie.Need-returns
-returns c = sym (odd-bytes _ (λ e. c .if1 .taken (omega arith)))
+returns c = sym (bytes-over _ (λ e. c .if1 .taken (omega arith)))
 
 is-lawful-requires : tie.Need-is-lawful-requires
 is-lawful-requires c κs = search needs

@@ -4,10 +4,6 @@ use Rattle.layout.specs.Reasons.{arenaGate}
 use borrow.Author.Needs.{needs}
 use Rattle.desk.proofs.load_and_check.Statement.{statement}
 use Rattle.desk.proofs.load_and_check.Tie as tie
-use Rattle.desk.proofs.load_and_check.Reads as reads
-use Rattle.desk.proofs.load_and_check.Lts as lts
-use Rattle.spelling.proofs.load.Reads as load-reads
-use Rattle.walk.proofs.check_arena.Reads as check-arena-reads
 
 load-requires : tie.Need-load-requires
 load-requires c κs = search needs

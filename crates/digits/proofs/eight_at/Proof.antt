@@ -1,6 +1,6 @@
 -- `eight_at` meets its contract: four digits and four digits.
 use native.Mathlib.Omega.{arith}
-use Rattle.digits.proofs.Finding.{halves-found}
+use Rattle.digits.proofs.NumbersFound.{halves-found}
 use borrow.Author.Needs.{needs}
 use Rattle.digits.proofs.eight_at.Statement.{statement}
 use Rattle.digits.proofs.eight_at.Tie as tie

@@ -1,6 +1,6 @@
 -- `four_at` meets its contract: two digits and two digits.
 use native.Mathlib.Omega.{arith}
-use Rattle.digits.proofs.Finding.{halves-found}
+use Rattle.digits.proofs.NumbersFound.{halves-found}
 use borrow.Author.Needs.{needs}
 use Rattle.digits.proofs.four_at.Statement.{statement}
 use Rattle.digits.proofs.four_at.Tie as tie

@@ -2,7 +2,7 @@
 use Prim.Native.Nat.{_+_, _≤_}
 use lib.ListN.{getD}
 use native.Mathlib.Omega.{arith}
-use Rattle.digits.proofs.Finding.{worth-most, two-found}
+use Rattle.digits.proofs.NumbersFound.{worth-most, two-found}
 use borrow.Author.Needs.{needs}
 use Rattle.digits.proofs.two_at.Statement.{statement}
 use Rattle.digits.proofs.two_at.Tie as tie

@@ -13,6 +13,9 @@ is-between-requires c κs = search needs
 sub-result : tie.Need-sub-result
 sub-result c = omega (arith, within 97 102 (c .before .before .args .b) (sym (c .before .is-between .ensures) ∙ c .if1 .taken))
 
+add-result : tie.Need-add-result
+add-result c = search needs
+
 returns : tie.Need-returns
 unfolding upper
 returns c = simp (sym (c .before .is-between .ensures) ∙ c .if1 .taken)
@@ -22,4 +25,4 @@ unfolding upper
 returns-2 c = simp (sym (c .before .is-between .ensures) ∙ c .if1 .left)
 
 pub upper-spec : {M : Type 1} → statement M
-upper-spec = tie.close (tie.spec is-between-requires sub-result returns returns-2)
+upper-spec = tie.close (tie.spec is-between-requires sub-result add-result returns returns-2)

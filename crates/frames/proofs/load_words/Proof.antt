@@ -1,5 +1,5 @@
--- `load_words` meets its contract. The loop's invariant: the words stored so far, and those in the text behind them, are
--- all the words. The measure is how many are left.
+-- `load_words` meets its contract. The loop's invariant: the words stored so far, and those in the text behind them,
+-- are all the words. The measure is how many are left.
 use Prim.Native.Nat.{_+_, _*_, _-_, _%_}
 use mathlib.Core.Path.{_≡_, refl}
 use mathlib.Core.List.{[], _∷_}

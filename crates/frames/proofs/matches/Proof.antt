@@ -1,6 +1,6 @@
--- `matches` meets its contract. The loop's invariant: the two are the same if they are so from byte `i` on. The measure is
--- how many bytes are left.
-use Prim.Native.Nat.{_+_, _-_, _≤_}
+-- `matches` meets its contract. The loop's invariant: the two are the same if they are so from byte `i` on. The measure
+-- is how many bytes are left.
+use Prim.Native.Nat.{_-_, _≤_}
 use mathlib.Core.Path.{_≡_, refl, sym, _∙_}
 use mathlib.Core.List.{map}
 use native.Mathlib.Omega.{arith}

@@ -1,12 +1,11 @@
 -- `accept` meets its contract: the number of words is not the arena's, or no arena's; they are not sound; or they are
 -- copied.
+use Prim.Native.Nat.{_≤_}
 use mathlib.Core.Path.{_≡_, sym, _∙_}
-use mathlib.Core.Bool.{true}
 use native.Mathlib.Omega.{arith}
 use lib.ListN.{length, take}
 use lib.Seq.{length-take-le, take-all}
 use borrow.Author.Tests.{not-true, not-false}
-use Rattle.layout.specs.Numbers.{lawful}
 use Rattle.layout.proofs.Bools.{lawful-bounds}
 use Rattle.picture.proofs.Decoding.{accept-other-length, accept-unlawful, accept-shut, accept-open}
 use borrow.Author.Needs.{needs}
@@ -20,14 +19,14 @@ called d = d .before .before .before .before .before
 abbrev accepted : tie.After-enum-told → tie.Else2
 accepted c = c .before .before .before .before
 
-is-lawful : (d : tie.Else2) → lawful (called d .args .n) ≡ true
-is-lawful d = sym (d .before .is-lawful .ensures) ∙ not-false _ (d .if2 .left)
-
 -- so many words are there
-there : (d : tie.Else2) → length (take (called d .args .n) (called d .args .words .now)) ≡ called d .args .n
-there d =
+fits : (d : tie.Else2) → called d .args .n ≤ length (called d .args .words .now)
+fits d =
     let x = called d .args in
-    length-take-le (x .n) (x .words .now) (omega (arith, lawful-bounds (x .n) (is-lawful d), called d .pre))
+    omega (arith, lawful-bounds (x .n) (sym (d .before .is-lawful .ensures) ∙ not-false _ (d .if2 .left)), called d .pre)
+
+there : (d : tie.Else2) → length (take (called d .args .n) (called d .args .words .now)) ≡ called d .args .n
+there d = length-take-le (called d .args .n) (called d .args .words .now) (fits d)
 
 returns : tie.Need-returns
 returns c = accept-other-length _ _ _ (c .if1 .taken)
@@ -51,7 +50,7 @@ returns-3 : tie.Need-returns-3
 returns-3 c =
     let k = c .before .before .before in
     let d = k .before .before in
-    accept-shut _ _ _ (d .before .before .if1 .left) (is-lawful d) _ (sym (c .before .arena .given .1) ∙ k .check-arena .ensures)
+    accept-shut _ _ _ (d .before .before .if1 .left) (fits d) _ (sym (c .before .arena .given .1) ∙ k .check-arena .ensures)
 
 enum-told : tie.Need-enum-told
 enum-told c = search needs
@@ -72,7 +71,8 @@ returns-4 c =
     let k = c .before .before in
     let o = k .before .before .before in
     let d = accepted o in
-    accept-open _ _ _ (d .before .before .if1 .left) (is-lawful d) _ (sym (o .enum-told .given .1) ∙ o .before .before .check-arena .ensures)
+    let x = called d .args in
+    accept-open (x .n) (x .words .now) (x .a .now) (d .before .before .if1 .left) (fits d) _ (sym (o .enum-told .given .1) ∙ o .before .before .check-arena .ensures)
     (sym (take-all (k .copy .result) _ (omega (arith, k .copy .ensures .counts, there d, d .before .before .if1 .left))) ∙ k .copy .ensures .holds)
 
 pub accept-spec : {M : Type 1} → statement M

@@ -1,5 +1,4 @@
 -- `read` meets its contract: the text is bad, or the words that were found in it are accepted or not.
-use native.Mathlib.Omega.{arith}
 use Rattle.picture.proofs.Decoding.{reads-bad, reads-words}
 use borrow.Author.Needs.{needs}
 use Rattle.picture.proofs.read.Statement.{statement}
@@ -31,8 +30,7 @@ returns c =
     let k = c .before .before in
     let m = k .before .before .before .before in
     let d = m .before .before .before in
-    let x = d .before .before .before .before .args in
-    rw (reads-words (x .text .now) (x .a .now) _ _ (rw (m .found .given .1) at (d .decode .ensures)) (omega arith)) at (k .accept .ensures)
+    reads-words _ _ _ _ (rw (m .found .given .1) at (d .decode .ensures)) (k .accept .ensures)
 
 returns-2 : tie.Need-returns-2
 returns-2 c =

@@ -4,19 +4,16 @@ use Prim.Native.Nat.{ℕ, _*_, _≤_}
 use mathlib.Core.Path.{sym}
 use native.Mathlib.Omega.{arith}
 use lib.ListN.{replicate, length-replicate}
-use Rattle.picture_cases.specs.Rooms.{Rooms}
+use Rattle.picture_cases.specs.CaseRooms.{CaseRooms}
 use borrow.Author.Needs.{needs}
 use Rattle.picture_cases.proofs.main.Statement.{statement}
 use Rattle.picture_cases.proofs.main.Tie as tie
-use Rattle.picture_cases.proofs.main.Reads as reads
-use Rattle.picture_cases.proofs.main.Lts as lts
-use Rattle.picture_cases.proofs.run_cases.Reads as run-cases-reads
 
 -- the words that the arena's buffer has
 abbrev mostWords : ℕ
 mostWords = 66000
 
-fits : (words bytes : ℕ) → 4 * words ≤ bytes → 4 * 3 ≤ bytes → Rooms (replicate words 0) (replicate bytes 0)
+fits : (words bytes : ℕ) → 4 * words ≤ bytes → 4 * 3 ≤ bytes → CaseRooms (replicate words 0) (replicate bytes 0)
 fits words bytes s n = record { spells = simp length-replicate s; numbers = simp length-replicate n }
 
 slice-aggregate-run-cases : tie.Need-slice-aggregate-run-cases

@@ -4,11 +4,6 @@ use lib.ListN.{length-take}
 use borrow.Author.Needs.{needs}
 use Rattle.picture_cases.proofs.run_case.Statement.{statement}
 use Rattle.picture_cases.proofs.run_case.Tie as tie
-use Rattle.picture_cases.proofs.run_case.Reads as reads
-use Rattle.picture_cases.proofs.run_case.Lts as lts
-use Rattle.layout.proofs.wide.Reads as wide-reads
-use Rattle.picture_cases.proofs.run_call.Reads as run-call-reads
-use Rattle.wire.proofs.read_words.Reads as read-words-reads
 
 slice-aggregate-read-words : tie.Need-slice-aggregate-read-words
 slice-aggregate-read-words c = search needs

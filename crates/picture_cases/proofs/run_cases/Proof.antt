@@ -1,18 +1,15 @@
--- `picture_cases::run_cases` is safe and ends. The loop's invariant: the buffers keep their lengths, and so have room for a
--- case. The measure is the number of turns that are left.
+-- `picture_cases::run_cases` is safe and ends. The loop's invariant: the buffers keep their lengths, and so have room
+-- for a case. The measure is the number of turns that are left.
 use lib.ListN.{length}
 use mathlib.Core.Path.{_≡_}
-use Rattle.picture_cases.specs.Rooms.{Rooms}
+use Rattle.picture_cases.specs.CaseRooms.{CaseRooms}
 use borrow.Author.Needs.{needs}
 use Rattle.picture_cases.proofs.run_cases.Statement.{statement}
 use Rattle.picture_cases.proofs.run_cases.Tie as tie
-use Rattle.picture_cases.proofs.run_cases.Reads as reads
-use Rattle.picture_cases.proofs.run_cases.Lts as lts
-use Rattle.picture_cases.proofs.run_case.Reads as run-case-reads
 
 abbrev Inv-loop : tie.InvT-loop
 Inv-loop page₀ space₀ bytes₀ turns₀ page space bytes turns =
-    Rooms space bytes × (length page ≡ length page₀) × (length space ≡ length space₀) × (length bytes ≡ length bytes₀)
+    CaseRooms space bytes × (length page ≡ length page₀) × (length space ≡ length space₀) × (length bytes ≡ length bytes₀)
 
 abbrev μ-loop : tie.MeasureT-loop
 μ-loop page₀ space₀ bytes₀ turns₀ page space bytes turns = turns

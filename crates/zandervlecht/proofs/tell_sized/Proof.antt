@@ -4,10 +4,6 @@ use Rattle.zandervlecht.proofs.Returned.{sized-returned}
 use borrow.Author.Needs.{needs}
 use Rattle.zandervlecht.proofs.tell_sized.Statement.{statement}
 use Rattle.zandervlecht.proofs.tell_sized.Tie as tie
-use Rattle.zandervlecht.proofs.tell_sized.Reads as reads
-use Rattle.zandervlecht.proofs.tell_sized.Lts as lts
-use Rattle.answers.proofs.sized_numbers.Reads as sized-numbers-reads
-use Rattle.zandervlecht.proofs.tell_first.Reads as tell-first-reads
 
 sized-numbers-requires : tie.Need-sized-numbers-requires
 sized-numbers-requires c κs = search needs

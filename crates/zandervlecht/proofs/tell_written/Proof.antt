@@ -4,10 +4,6 @@ use Rattle.zandervlecht.proofs.Returned.{written-returned}
 use borrow.Author.Needs.{needs}
 use Rattle.zandervlecht.proofs.tell_written.Statement.{statement}
 use Rattle.zandervlecht.proofs.tell_written.Tie as tie
-use Rattle.zandervlecht.proofs.tell_written.Reads as reads
-use Rattle.zandervlecht.proofs.tell_written.Lts as lts
-use Rattle.answers.proofs.written_numbers.Reads as written-numbers-reads
-use Rattle.zandervlecht.proofs.tell_first.Reads as tell-first-reads
 
 written-numbers-requires : tie.Need-written-numbers-requires
 written-numbers-requires c κs = search needs

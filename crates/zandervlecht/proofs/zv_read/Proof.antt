@@ -3,10 +3,6 @@ use Rattle.rules.proofs.Outcomes.{gives-as}
 use borrow.Author.Needs.{needs}
 use Rattle.zandervlecht.proofs.zv_read.Statement.{statement}
 use Rattle.zandervlecht.proofs.zv_read.Tie as tie
-use Rattle.zandervlecht.proofs.zv_read.Reads as reads
-use Rattle.zandervlecht.proofs.zv_read.Lts as lts
-use Rattle.picture.proofs.read.Reads as read-reads
-use Rattle.zandervlecht.proofs.tell_finish.Reads as tell-finish-reads
 
 read-requires : tie.Need-read-requires
 read-requires c κs = search needs

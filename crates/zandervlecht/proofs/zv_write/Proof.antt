@@ -3,10 +3,6 @@ use Rattle.picture.proofs.Promised.{writes-as}
 use borrow.Author.Needs.{needs}
 use Rattle.zandervlecht.proofs.zv_write.Statement.{statement}
 use Rattle.zandervlecht.proofs.zv_write.Tie as tie
-use Rattle.zandervlecht.proofs.zv_write.Reads as reads
-use Rattle.zandervlecht.proofs.zv_write.Lts as lts
-use Rattle.picture.proofs.write.Reads as write-reads
-use Rattle.zandervlecht.proofs.tell_written.Reads as tell-written-reads
 
 write-requires : tie.Need-write-requires
 write-requires c κs = search needs

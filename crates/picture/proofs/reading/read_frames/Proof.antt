@@ -3,9 +3,8 @@
 use Prim.Native.Nat.{_-_}
 use mathlib.Core.Path.{refl}
 use native.Mathlib.Omega.{arith}
-use lib.ListN.{length}
 use Rattle.rules.proofs.Frames.{NextFrame}
-use Rattle.picture.specs.Reading.{ReadsFrame}
+use Rattle.picture.specs.Decoding.{ReadsFrame}
 use Rattle.picture.proofs.Parts.{part-length}
 use Rattle.picture.proofs.FrameByFrame.{Reading, reading-begins, reading-fails, reading-next, reading-ends, reading-failed}
 use borrow.Author.Needs.{needs}

@@ -1,11 +1,12 @@
--- `put_picture` meets its contract. The loop's invariant: the first bytes, and the frames of the words from `i` on, are the
--- picture. The measure is how many words are left.
+-- `put_picture` meets its contract. The loop's invariant: the first bytes, and the frames of the words from `i` on, are
+-- the picture. The measure is how many words are left.
 use Prim.Native.Nat.{_-_, _≤_}
 use mathlib.Core.Path.{_≡_, refl, _∙_}
 use mathlib.Core.List.{[]}
 use native.Mathlib.Omega.{arith}
 use lib.ListN.{length}
 use Rattle.digits.proofs.Putting.{put-length}
+use Rattle.rules.specs.Pictures.{lineLength}
 use Rattle.rules.proofs.Pictures.{line-length, picture-length}
 use Rattle.rules.proofs.Frames.{NextFrame}
 use Rattle.picture.proofs.Parts.{part-length}
@@ -29,11 +30,11 @@ next : (s : tie.After-smaller Inv-loop μ-loop) → NextFrame (length (called (s
 next s = (omega arith, s .smaller .ensures)
 
 -- the first line has room
-room-at-first : (c : tie.Start Inv-loop μ-loop) → 7 ≤ length (c .args .text .now)
+room-at-first : (c : tie.Start Inv-loop μ-loop) → lineLength 0 ≤ length (c .args .text .now)
 room-at-first c = omega (arith, picture-length (c .args .words .now), c .pre .1)
 
 -- where the first line ends
-first-line : (c : tie.After-put-line Inv-loop μ-loop) → c .put-line .result ≡ 7
+first-line : (c : tie.After-put-line Inv-loop μ-loop) → c .put-line .result ≡ lineLength 0
 first-line c = omega (arith, c .put-line .ensures .ends, line-length 6 (length (c .before .before .before .before .before .args .words .now)) [])
 
 cast-put-line : tie.Need-cast-put-line Inv-loop μ-loop

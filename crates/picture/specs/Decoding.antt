@@ -1,16 +1,13 @@
 -- What is found of a text. No public contract cites this file.
 use Prim.Native.Nat.{ℕ, _+_, _≤_}
 use mathlib.Core.Path.{_≡_}
-use mathlib.Core.Bool.{Bool, true, cond}
-use mathlib.Core.List.{List, []}
+use mathlib.Core.Bool.{Bool, true}
+use mathlib.Core.List.{List, map}
 use lib.ListN.{length, take, drop}
-use lib.Dec.{eqb}
-use Rattle.layout.specs.Numbers.{lawful}
-use Rattle.layout.specs.Reasons.{arenaGate}
-use Rattle.layout.specs.declared.Reason.the-variants.{Length}
-use Rattle.rules.specs.Answers.{Outcome, settle, pass, done, refused}
-use Rattle.rules.specs.Pictures.{frame, framesFor, lineHead, lineLength, wordsIn, standingFrom, Said, bad, good}
-use Rattle.rules.proofs.Frames.{goesOn}
+use Rattle.digits.specs.Digits.{upper}
+use Rattle.rules.specs.Answers.{Answer, Gives, settle}
+use Rattle.rules.specs.Calls.{readInto}
+use Rattle.rules.specs.Pictures.{frame, framesFrom, framesFor, lineHead, lineLength, wordsIn, standingFrom, same, Said, bad, good}
 use Rattle.frames.specs.Lines.{hasLine}
 use Rattle.picture.specs.declared.reading.Found.{Found}
 use Rattle.picture.specs.declared.reading.Found.the-variants.{Words, Bad}
@@ -25,9 +22,13 @@ pub record Slot (i count room slot : ℕ) : Type 0 where
   pub lies : slot + count ≤ room
   pub stays : i + count ≤ room → slot ≡ i
 
+-- the rest of a text is the frames, from word `at` on, of the `left` words at their places there
+unfoldable pub holdsFrames : ℕ → ℕ → List ℕ → Bool
+holdsFrames at left rest = same (map upper rest) (framesFrom (framesFor left) at (standingFrom (framesFor left) left rest))
+
 -- `r` tells whether the text goes on with the frames of `n` words; if so, and the buffer has as many, they are there
 pub record ReadsFrames (text : List ℕ) (n : ℕ) (r : Bool) (buffer : List ℕ) : Type 0 where
-  pub tells : r ≡ goesOn 0 n (drop (lineLength 0) text)
+  pub tells : r ≡ holdsFrames 0 n (drop (lineLength 0) text)
   pub loads : r ≡ true → n ≤ length buffer → take n buffer ≡ standingFrom (framesFor n) n (drop (lineLength 0) text)
 
 -- what a text says was found: that it is bad, or how many words it says and, if the buffer has as many, which
@@ -37,10 +38,8 @@ Finds bad (Words n) buffer = ⊥
 Finds (good ws) Bad buffer = ⊥
 Finds (good ws) (Words n) buffer = (n ≡ length ws) × (n ≤ length buffer → take n buffer ≡ ws)
 
--- what comes of `n` words, the first of a buffer, for the words `a`
-unfoldable pub acceptOn : ℕ → List ℕ → List ℕ → Outcome
-acceptOn n buffer a =
-    settle 0 a
-    (cond (eqb n (length a))
-    (cond (lawful n) (pass (arenaGate (take n buffer)) (done [] (take n buffer))) (refused Length))
-    (refused Length))
+-- words were accepted, or not: if a buffer has what was found of a text that says `n` words, then what is answered, and
+-- the words afterwards, are what comes of that for the words `a`
+abbrev pub Accepts : ℕ → List ℕ → List ℕ → Answer → List ℕ → Type 0
+Accepts n buffer a answer after =
+    (found : Said) → Finds found (Words n) buffer → Gives (settle 0 a (readInto (length a) found)) answer after

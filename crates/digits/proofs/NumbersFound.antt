@@ -2,12 +2,12 @@
 use Prim.Native.Nat.{ℕ, suc, _+_, _*_, _≤_}
 use mathlib.Core.Path.{_≡_, refl, sym, ap, _∙_}
 use mathlib.Core.Bool.{Bool, true, false}
-use mathlib.Core.List.{List, [], _∷_, _++_}
+use mathlib.Core.List.{List}
 use native.Mathlib.Omega.{arith}
 use native.Mathlib.Numerals.{towards-suc}
 use lib.ListN.{length, getD, take, drop, length-drop}
 use lib.Seq.{drop-cons, drop-drop, take-add, length-take-le}
-use Rattle.digits.specs.Digits.{between, worth, numberFrom, numberOf}
+use Rattle.digits.specs.Digits.{between, worth, numberOf}
 use Rattle.digits.proofs.Ranges.{within, worth-known}
 use Rattle.digits.proofs.DigitRuns.{raised, number-raised, number-append}
 
