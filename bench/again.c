@@ -7,11 +7,16 @@
 #define plain_realloc again_realloc
 #define plain_size again_size
 #define plain_report again_report
+#define plain_write again_write
+#define plain_read again_read
+#define plain_check again_check
 
 #include "plain.c"
+#include "plain_pictures.c"
 
 #include "library.h"
 
 const struct library again = {
-    again_start, again_alloc, again_free, again_resize, again_relocate, again_realloc, again_size, again_report,
+    again_start, again_alloc,  again_free,  again_resize, again_relocate, again_realloc,
+    again_size,  again_report, again_write, again_read,   again_check,
 };

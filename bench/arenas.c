@@ -11,20 +11,28 @@ struct site {
     size_t link;
 };
 
-/* Every word differs from its neighbours, so that a word at a wrong place shows. */
-static void fill_with_noise(uint32_t *arena, size_t words)
+/* Another number for each number, in digits that cannot be foretold. */
+static uint32_t noise(uint32_t number)
+{
+    number *= 2654435761u;
+    number = (number ^ number >> 15) * 2246822519u;
+    return number ^ number >> 13;
+}
+
+/* Every word differs from all others, so that a word at a wrong place shows. */
+static void fill_with_noise(uint32_t *arena, size_t words, uint32_t first)
 {
     size_t i;
 
     for (i = 0; i < words; i++)
-        arena[i] = (uint32_t)(i + 1) * 2654435761u;
+        arena[i] = noise(first + (uint32_t)i);
 }
 
 static struct site begin_site(uint32_t *arena, size_t words)
 {
     struct site site = {arena, words, FIRST_CHUNK, 1};
 
-    fill_with_noise(arena, words);
+    fill_with_noise(arena, words, 1);
     arena[0] = (uint32_t)words;
     arena[1] = 0;
     return site;
@@ -105,10 +113,29 @@ void fill_arena(uint32_t *arena, size_t words, enum filling filling, enum crowd 
         fill_by_turns(arena, words, crowd == FEW ? words / 10 / 2 * 2 : LEAST_CHUNK);
         break;
     case USUAL_USE:
-        fill_with_noise(arena, words);
-        leave_used(arena, words, crowd);
+        fill_used(arena, words, crowd, 0);
         break;
     }
+}
+
+/* Stores noise into every block, as its holder would. */
+static void fill_blocks(uint32_t *arena, size_t words, uint32_t first)
+{
+    size_t chunk;
+
+    for (chunk = FIRST_CHUNK; chunk < words; chunk += arena[chunk]) {
+        if (arena[chunk + 1] == LIVE_MARK)
+            fill_with_noise(arena + chunk + HEADER, arena[chunk] - HEADER, first + (uint32_t)chunk);
+    }
+}
+
+void fill_used(uint32_t *arena, size_t words, enum crowd crowd, uint32_t number)
+{
+    uint32_t first = number * (uint32_t)words + 1;
+
+    fill_with_noise(arena, words, first);
+    leave_used(arena, words, crowd, number);
+    fill_blocks(arena, words, first);
 }
 
 size_t chunks_of(const uint32_t *arena, size_t words, size_t starts[MOST_CHUNKS])

@@ -23,6 +23,9 @@ enum filling {
 /* Makes an arena of so many words with this filling. */
 void fill_arena(uint32_t *arena, size_t words, enum filling filling, enum crowd crowd);
 
+/* Makes an arena in usual use; there are many of them, each with a number, and that of `fill_arena` is number 0. */
+void fill_used(uint32_t *arena, size_t words, enum crowd crowd, uint32_t number);
+
 /* Makes an arena of so many words that is `count` live chunks. */
 void fill_with_live(uint32_t *arena, size_t words, size_t count);
 

@@ -174,18 +174,6 @@ static void open_rows(const char *name)
     fprintf(output.rows, "section\tblocks\tcall\twords\tchunks\tratio\tlow\thigh\tours\tplain\tours_ns\tplain_ns\n");
 }
 
-static void spoil(const char *what)
-{
-    if (strcmp(what, "code") == 0)
-        spoil_comparing(A_CODE);
-    else if (strcmp(what, "answer") == 0)
-        spoil_comparing(AN_ANSWER);
-    else if (strcmp(what, "word") == 0)
-        spoil_comparing(A_WORD);
-    else
-        refuse_options();
-}
-
 static void read_options(int count, char **options)
 {
     int i;
@@ -199,8 +187,8 @@ static void read_options(int count, char **options)
             measured = &again;
         else if (strcmp(options[i], "--rows") == 0 && i + 1 < count)
             open_rows(options[++i]);
-        else if (strcmp(options[i], "--spoil") == 0 && i + 1 < count)
-            spoil(options[++i]);
+        else if (strcmp(options[i], "--spoil") == 0 && i + 1 < count && spoil_comparing(options[i + 1]))
+            i++;
         else
             refuse_options();
     }

@@ -1,4 +1,4 @@
-/* Makes each call through both libraries: codes, all fields of the answers and all words have to be equal. */
+/* Makes each call through both libraries: codes, all fields of the answers, words and texts have to be equal. */
 #include "comparing.h"
 
 #include <stdio.h>
@@ -9,6 +9,8 @@
 
 #define UNTOLD 0xABABABABu
 
+enum { CALLS_BEFORE_SPOILING = 300 };
+
 /* What came of a call: its code and the fields of its answer; those that it has not stay as they were. */
 struct outcome {
     uint32_t code;
@@ -17,34 +19,50 @@ struct outcome {
 
 static const struct outcome nothing_told = {UNTOLD, {UNTOLD, UNTOLD, UNTOLD, UNTOLD}};
 
+/* What `spoil_comparing` makes wrong. */
+enum spoiled { NOTHING, A_CODE, AN_ANSWER, A_WORD, A_TEXT, SPOILED_KINDS };
+
+static const char *const spoiled_names[SPOILED_KINDS] = {"nothing", "code", "answer", "word", "text"};
+
 static uint32_t copy[ZV_GREATEST_WORDS];
+static uint8_t copied_text[LONGEST_TEXT];
+static const uint32_t *compared_arena;
 static const char *compared_subject;
 static enum spoiled spoiled;
-static unsigned long calls_until_spoiled;
+static unsigned long calls_in_all;
 
 struct seen seen;
 
 void begin_comparing(const uint32_t *arena, size_t words, const char *subject)
 {
     memcpy(copy, arena, words * sizeof *arena);
+    compared_arena = arena;
     compared_subject = subject;
     seen = (struct seen){0, 0};
 }
 
-void spoil_comparing(enum spoiled what)
+int spoil_comparing(const char *what)
 {
-    spoiled = what;
-    calls_until_spoiled = 300;
+    for (spoiled = SPOILED_KINDS - 1; spoiled > NOTHING; spoiled--) {
+        if (strcmp(what, spoiled_names[spoiled]) == 0)
+            return 1;
+    }
+    return 0;
 }
 
-static void spoil_if_due(struct outcome *theirs)
+/* What the copy has for a part of the arena that is compared. */
+static uint32_t *copy_of(const uint32_t *arena)
 {
-    if (spoiled == NOTHING || calls_until_spoiled-- > 0)
-        return;
-    theirs->code += spoiled == A_CODE;
-    theirs->fields[0] += spoiled == AN_ANSWER;
-    copy[5] += spoiled == A_WORD;
+    return copy + (arena - compared_arena);
+}
+
+/* Whether this is to be made wrong now; once it was, nothing is. */
+static int is_due(enum spoiled what)
+{
+    if (spoiled != what || calls_in_all < CALLS_BEFORE_SPOILING)
+        return 0;
     spoiled = NOTHING;
+    return 1;
 }
 
 static void tell(const char *who, const struct outcome *outcome)
@@ -69,14 +87,30 @@ static void tell_difference(const char *call, const struct outcome *mine, const 
 static void compare_words(const char *call, const uint32_t *arena, size_t words, const struct outcome *mine,
                           const struct outcome *theirs)
 {
+    const uint32_t *copied = copy_of(arena);
     size_t i = 0;
 
-    if (memcmp(arena, copy, words * sizeof *arena) == 0)
+    if (memcmp(arena, copied, words * sizeof *arena) == 0)
         return;
-    while (arena[i] == copy[i])
+    while (arena[i] == copied[i])
         i++;
     tell_difference(call, mine, theirs);
-    fprintf(stderr, "  word %lu of the arena afterwards: ours %u, plain C %u\n", (unsigned long)i, arena[i], copy[i]);
+    fprintf(stderr, "  word %lu of the arena afterwards: ours %u, plain C %u\n", (unsigned long)i, arena[i], copied[i]);
+    exit(1);
+}
+
+/* Ends the program where a byte of the text that was written differs. */
+static void compare_texts(const uint8_t *text, size_t bytes, const struct outcome *mine, const struct outcome *theirs)
+{
+    size_t i = 0;
+
+    if (memcmp(text, copied_text, bytes) == 0)
+        return;
+    while (text[i] == copied_text[i])
+        i++;
+    tell_difference("write", mine, theirs);
+    fprintf(stderr, "  byte %lu of the text afterwards: ours %u, plain C %u\n", (unsigned long)i, text[i],
+            copied_text[i]);
     exit(1);
 }
 
@@ -85,7 +119,11 @@ static uint32_t agreed(const char *call, const uint32_t *arena, size_t words, co
                        struct outcome *theirs)
 {
     seen.calls++;
-    spoil_if_due(theirs);
+    calls_in_all++;
+    theirs->code += is_due(A_CODE);
+    theirs->fields[0] += is_due(AN_ANSWER);
+    if (words > 5)
+        copy_of(arena)[5] += is_due(A_WORD);
     if (memcmp(mine, theirs, sizeof *mine) != 0) {
         tell_difference(call, mine, theirs);
         exit(1);
@@ -99,7 +137,7 @@ static uint32_t both_start(uint32_t *arena, size_t words)
     struct outcome mine = nothing_told, theirs = nothing_told;
 
     mine.code = zv_start(arena, words);
-    theirs.code = plain_start(copy, words);
+    theirs.code = plain_start(copy_of(arena), words);
     return agreed("start", arena, words, &mine, &theirs);
 }
 
@@ -108,7 +146,7 @@ static uint32_t both_alloc(uint32_t *arena, size_t words, uint32_t n, uint32_t a
     struct outcome mine = nothing_told, theirs = nothing_told;
 
     mine.code = zv_alloc(arena, words, n, mine.fields);
-    theirs.code = plain_alloc(copy, words, n, theirs.fields);
+    theirs.code = plain_alloc(copy_of(arena), words, n, theirs.fields);
     memcpy(answer, mine.fields, 2 * sizeof *answer);
     return agreed("alloc", arena, words, &mine, &theirs);
 }
@@ -118,7 +156,7 @@ static uint32_t both_free(uint32_t *arena, size_t words, uint32_t b)
     struct outcome mine = nothing_told, theirs = nothing_told;
 
     mine.code = zv_free(arena, words, b);
-    theirs.code = plain_free(copy, words, b);
+    theirs.code = plain_free(copy_of(arena), words, b);
     return agreed("free", arena, words, &mine, &theirs);
 }
 
@@ -127,7 +165,7 @@ static uint32_t both_resize(uint32_t *arena, size_t words, uint32_t b, uint32_t 
     struct outcome mine = nothing_told, theirs = nothing_told;
 
     mine.code = zv_resize(arena, words, b, n, mine.fields);
-    theirs.code = plain_resize(copy, words, b, n, theirs.fields);
+    theirs.code = plain_resize(copy_of(arena), words, b, n, theirs.fields);
     memcpy(answer, mine.fields, 2 * sizeof *answer);
     return agreed("resize", arena, words, &mine, &theirs);
 }
@@ -137,7 +175,7 @@ static uint32_t both_relocate(uint32_t *arena, size_t words, uint32_t b, uint32_
     struct outcome mine = nothing_told, theirs = nothing_told;
 
     mine.code = zv_relocate(arena, words, b, n, mine.fields);
-    theirs.code = plain_relocate(copy, words, b, n, theirs.fields);
+    theirs.code = plain_relocate(copy_of(arena), words, b, n, theirs.fields);
     memcpy(answer, mine.fields, 2 * sizeof *answer);
     seen.moves += mine.code == ZV_DONE;
     return agreed("relocate", arena, words, &mine, &theirs);
@@ -148,7 +186,7 @@ static uint32_t both_realloc(uint32_t *arena, size_t words, uint32_t b, uint32_t
     struct outcome mine = nothing_told, theirs = nothing_told;
 
     mine.code = zv_realloc(arena, words, b, n, mine.fields);
-    theirs.code = plain_realloc(copy, words, b, n, theirs.fields);
+    theirs.code = plain_realloc(copy_of(arena), words, b, n, theirs.fields);
     memcpy(answer, mine.fields, 2 * sizeof *answer);
     seen.moves += mine.code == ZV_DONE && answer[ZV_BLOCK] != b;
     return agreed("realloc", arena, words, &mine, &theirs);
@@ -159,7 +197,7 @@ static uint32_t both_size(const uint32_t *arena, size_t words, uint32_t b, uint3
     struct outcome mine = nothing_told, theirs = nothing_told;
 
     mine.code = zv_size(arena, words, b, mine.fields);
-    theirs.code = plain_size(copy, words, b, theirs.fields);
+    theirs.code = plain_size(copy_of(arena), words, b, theirs.fields);
     memcpy(answer, mine.fields, sizeof *answer);
     return agreed("size", arena, words, &mine, &theirs);
 }
@@ -169,11 +207,47 @@ static uint32_t both_report(const uint32_t *arena, size_t words, uint32_t answer
     struct outcome mine = nothing_told, theirs = nothing_told;
 
     mine.code = zv_report(arena, words, mine.fields);
-    theirs.code = plain_report(copy, words, theirs.fields);
+    theirs.code = plain_report(copy_of(arena), words, theirs.fields);
     memcpy(answer, mine.fields, sizeof mine.fields);
     return agreed("report", arena, words, &mine, &theirs);
 }
 
+static uint32_t both_write(const uint32_t *arena, size_t words, uint8_t *text, size_t bytes, uint32_t answer[1])
+{
+    struct outcome mine = nothing_told, theirs = nothing_told;
+
+    if (bytes > LONGEST_TEXT)
+        abort();
+    memcpy(copied_text, text, bytes);
+    mine.code = zv_write(arena, words, text, bytes, mine.fields);
+    theirs.code = plain_write(copy_of(arena), words, copied_text, bytes, theirs.fields);
+    memcpy(answer, mine.fields, sizeof *answer);
+    agreed("write", arena, words, &mine, &theirs);
+    if (bytes > 0)
+        copied_text[0] += is_due(A_TEXT);
+    compare_texts(text, bytes, &mine, &theirs);
+    return mine.code;
+}
+
+static uint32_t both_read(const uint8_t *text, size_t bytes, uint32_t *arena, size_t words)
+{
+    struct outcome mine = nothing_told, theirs = nothing_told;
+
+    mine.code = zv_read(text, bytes, arena, words);
+    theirs.code = plain_read(text, bytes, copy_of(arena), words);
+    return agreed("read", arena, words, &mine, &theirs);
+}
+
+static uint32_t both_check(const uint8_t *spelled, size_t bytes)
+{
+    struct outcome mine = nothing_told, theirs = nothing_told;
+
+    mine.code = zv_check(spelled, bytes);
+    theirs.code = plain_check(spelled, bytes);
+    return agreed("check", compared_arena, 0, &mine, &theirs);
+}
+
 const struct library both = {
-    both_start, both_alloc, both_free, both_resize, both_relocate, both_realloc, both_size, both_report,
+    both_start, both_alloc,  both_free,  both_resize, both_relocate, both_realloc,
+    both_size,  both_report, both_write, both_read,   both_check,
 };

@@ -4,8 +4,13 @@
 
 #include "library.h"
 
-/* Its calls are made on the arena given through ours, and on the copy of `begin_comparing` through plain C. */
+/*
+ * Its calls are made on the arena given through ours, and on the copy of `begin_comparing` through plain C. A call may
+ * also be given a part of that arena; a text that is written to has at most LONGEST_TEXT bytes.
+ */
 extern const struct library both;
+
+enum { LONGEST_TEXT = 150000 };
 
 /* What was seen since `begin_comparing`. */
 struct seen {
@@ -16,13 +21,13 @@ struct seen {
 
 extern struct seen seen;
 
-/* What `spoil_comparing` makes wrong. */
-enum spoiled { NOTHING, A_CODE, AN_ANSWER, A_WORD };
-
 /* Takes a copy of this arena for plain C, and counts from 0; `subject` is said where a difference is found. */
 void begin_comparing(const uint32_t *arena, size_t words, const char *subject);
 
-/* Makes one outcome of plain C wrong, some hundred calls from now: to show that a difference would be found. */
-void spoil_comparing(enum spoiled what);
+/*
+ * Makes one outcome of plain C wrong, some hundred calls from now, to show that a difference would be found: a code, an
+ * answer, a word or a text, by its name. Answers 0 where there is no such name.
+ */
+int spoil_comparing(const char *what);
 
 #endif

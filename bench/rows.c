@@ -91,7 +91,7 @@ struct row trace_row(const struct mix *mix, uint32_t seed, size_t words, double 
 {
     static struct trace trace;
     static size_t starts[MOST_CHUNKS];
-    struct part part = {0, 0, 0, &trace};
+    struct part part = {.trace = &trace};
     struct row row;
     double off;
 

@@ -1,19 +1,15 @@
 /*
  * Measures the stack that calls take, in bytes.
  *
- * A call is made on a stack of its own, every byte of which was painted before; how deep it went is seen by the paint.
- * What the same way to an empty function takes is taken off.
+ * A call is made on a painted stack; what the same way to an empty function takes is taken off.
  */
-#define _XOPEN_SOURCE 600
-
 #include <stdio.h>
-#include <stdlib.h>
 #include <string.h>
-#include <ucontext.h>
 
 #include "arenas.h"
+#include "painting.h"
 
-enum { STACK_BYTES = 4 << 20, PAINT = 0xA5, CALLS = 4, WORDS = ZV_GREATEST_WORDS };
+enum { CALLS = 4, WORDS = ZV_GREATEST_WORDS };
 
 /* The call that is made on the painted stack. */
 struct errand {
@@ -21,36 +17,15 @@ struct errand {
     struct step step;
 };
 
-static unsigned char stack[STACK_BYTES] __attribute__((aligned(64)));
 static uint32_t filled[WORDS];
 static uint32_t arena[WORDS];
 static struct errand errand;
-static ucontext_t home, away;
 
 static void run_errand(void)
 {
     uint32_t answer[4];
 
     make_step(errand.library, arena, WORDS, &errand.step, answer);
-}
-
-/* How deep the errand goes from the top of the painted stack. */
-static size_t painted_over(void)
-{
-    size_t left = 0;
-
-    memset(stack, PAINT, STACK_BYTES);
-    if (getcontext(&away) != 0)
-        abort();
-    away.uc_stack.ss_sp = stack;
-    away.uc_stack.ss_size = STACK_BYTES;
-    away.uc_link = &home;
-    makecontext(&away, run_errand, 0);
-    if (swapcontext(&home, &away) != 0)
-        abort();
-    while (left < STACK_BYTES && stack[left] == PAINT)
-        left++;
-    return STACK_BYTES - left;
 }
 
 /* The depth of a call on the filled arena. It is made once before, so that the loader's work is not counted. */
@@ -60,7 +35,7 @@ static size_t depth_of(const struct library *library, struct step step)
     memcpy(arena, filled, sizeof arena);
     run_errand();
     memcpy(arena, filled, sizeof arena);
-    return painted_over();
+    return painted_over(run_errand);
 }
 
 static size_t stack_of(const struct library *library, struct step step)

@@ -204,9 +204,9 @@ void record_trace(struct trace *trace, size_t words, const struct mix *mix, uint
     free(user);
 }
 
-void leave_used(uint32_t *arena, size_t words, enum crowd crowd)
+void leave_used(uint32_t *arena, size_t words, enum crowd crowd, uint32_t number)
 {
-    struct user *user = new_user(&logger, crowd, words, 20261116u);
+    struct user *user = new_user(&logger, crowd, words, 20261116u + number);
     size_t left = 2 * words + 500;
 
     plain.start(arena, words);

@@ -46,7 +46,8 @@ uint32_t make_trace(const struct library *library, uint32_t *arena, size_t words
    the processor, which foretells branches that it has seen before. */
 void record_trace(struct trace *trace, size_t words, const struct mix *mix, uint32_t seed);
 
-/* Leaves an arena as a logger does after a while: most requests short, some long, two thirds of the words taken. */
-void leave_used(uint32_t *arena, size_t words, enum crowd crowd);
+/* Leaves an arena as the logger of this number does after a while: most requests short, some long, two thirds of the
+   words taken. */
+void leave_used(uint32_t *arena, size_t words, enum crowd crowd, uint32_t number);
 
 #endif

@@ -160,7 +160,7 @@ int choose_part(const struct turn *turn, uint32_t *arena, size_t words, enum fil
 
         if (!is_candidate(turn, arena, starts, i, count))
             continue;
-        *part = (struct part){(uint32_t)starts[i] + HEADER, granted + turn->more, granted, NULL};
+        *part = (struct part){.block = (uint32_t)starts[i] + HEADER, .there = granted + turn->more, .back = granted};
         if (turn->make == make_pair)
             part->there = alloc_request(filling, report[ZV_LARGEST]);
         if (turn->make == make_refused)

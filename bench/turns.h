@@ -6,12 +6,13 @@
 #include "library.h"
 #include "traces.h"
 
-/* What a turn asks for: a block, a request, and the request that brings the block back; or a whole trace. */
+/* What a turn asks for: a block, a request, and the request that brings the block back; a whole trace; an album. */
 struct part {
     uint32_t block;
     uint32_t there;
     uint32_t back;
     const struct trace *trace;
+    struct album *album;
 };
 
 /* What must stand right above the block of a turn. */

@@ -26,6 +26,21 @@ worth-upper b = go (between 97 102 b) refl
         ∙ omega arith ∙ sym (worth-known b false false true (above 48 57 b (omega arith)) (above 65 70 b (omega arith)) e)
     go false e = refl
 
+-- a capital is no small letter
+no-small : (b : ℕ) → between 97 102 (upper b) ≡ false
+unfolding upper
+no-small b = go (between 97 102 b) refl
+  where
+    go : (letter : Bool) → between 97 102 b ≡ letter → between 97 102 (cond letter (b - 97 + 65) b) ≡ false
+    go true e = let (least, most) = within 97 102 b e in below 97 102 (b - 97 + 65) (omega arith)
+    go false e = e
+
+-- the two tests of a byte's capital say what the byte is worth
+pub worth-as-capital : (b c : ℕ) (p q : Bool) → c ≡ upper b → between 48 57 c ≡ p → between 65 70 c ≡ q
+    → worth b ≡ cond p (c - 48) (cond q (c - 65 + 10) 16)
+worth-as-capital b c p q e f g =
+    sym (worth-upper b) ∙ ap worth (sym e) ∙ worth-known c p q false f g (ap (between 97 102) e ∙ no-small b)
+
 pub number-upper : (n : ℕ) (bs : List ℕ) → numberFrom n (map upper bs) ≡ numberFrom n bs
 number-upper n [] = refl
 number-upper n (b ∷ bs) = ap (λ (w : ℕ). numberFrom (n * 16 + w) (map upper bs)) (worth-upper b) ∙ number-upper (n * 16 + worth b) bs

@@ -21,14 +21,12 @@ fn is_between(first: u8, last: u8, b: u8) -> bool
 pub fn worth(b: u8) -> u64
     ensures { λ r. ⌜ r ≡ worthOf b ⌝ }
 {
-    if is_between(b'0', b'9', b) {
-        return (b - b'0') as u64;
+    let capital = upper(b);
+    if is_between(b'0', b'9', capital) {
+        return (capital - b'0') as u64;
     }
-    if is_between(b'A', b'F', b) {
-        return (b - b'A') as u64 + 10;
-    }
-    if is_between(b'a', b'f', b) {
-        return (b - b'a') as u64 + 10;
+    if is_between(b'A', b'F', capital) {
+        return (capital - b'A') as u64 + 10;
     }
     16
 }

@@ -91,14 +91,15 @@ fn matches(part: &[u8], expected: &[u8]) -> bool
     requires { ⌜ length (now part) ≡ length (now expected) ⌝ }
     ensures { λ r. ⌜ r ≡ same (map upper (now (part .entry))) (now (expected .entry)) ⌝ }
 {
+    let mut alike = true;
     let mut i = 0;
     while i < expected.len() {
         if digits::upper(part[i]) != expected[i] {
-            return false;
+            alike = false;
         }
         i += 1;
     }
-    true
+    alike
 }
 
 // Whether this line stands in a text at byte `at`, digits of either case.
