@@ -36,6 +36,7 @@ framesFrom (suc more) at ws = frame at (take frameWords ws) ++ framesFrom more (
 abbrev pub framesFor : ℕ → ℕ
 framesFor n = (n + (frameWords - 1)) / frameWords
 
+-- the picture of words: the first line, and then all frames
 unfoldable pub pictureOf : List ℕ → List ℕ
 pictureOf ws = sizeLine (length ws) ++ framesFrom (framesFor (length ws)) 0 ws
 
