@@ -1,7 +1,11 @@
 -- Nothing is lost where an answer is padded: its fields are the first of the four, and it has no more.
-use mathlib.Core.Path.{_≡_, refl}
+use Prim.Native.Nat.{ℕ}
+use mathlib.Core.Path.{_≡_, refl, ap, _∙_}
+use mathlib.Core.List.{List}
+use Rattle.rules.specs.Answers.{Answer, Outcome, Gives}
 use Rattle.answers.specs.Readings.{finishNumbers, grantedNumbers, sizedNumbers, reportedNumbers, writtenNumbers}
-use Rattle.answers.specs.Padded.{padded, answerIn}
+use Rattle.answers.specs.Padded.{padded, answerIn, Settles}
+use Rattle.answers.specs.declared.Numbers.{Numbers}
 use Rattle.answers.specs.declared.Finish.{Finish}
 use Rattle.answers.specs.declared.Finish.the-variants.{Done, Refused as NotDone}
 use Rattle.answers.specs.declared.Granted.{Granted}
@@ -32,3 +36,8 @@ reported-told (NotReported why) = refl
 pub written-told : (r : Written) → answerIn (padded (writtenNumbers r)) ≡ writtenNumbers r
 written-told (Bytes bytes) = refl
 written-told (NotWritten why) = refl
+
+-- a call gives an answer, and these are that answer's numbers
+pub settled : {outcome : Outcome} {answer : Answer} {words : List ℕ} {numbers : Numbers} → Gives outcome answer words → numbers ≡ padded answer
+    → Settles outcome numbers words
+settled g e = record { answers = e ∙ ap padded (g .answers); leaves = g .leaves }

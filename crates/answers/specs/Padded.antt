@@ -1,10 +1,11 @@
 -- An answer as a number of numbers that is always the same. No public contract of a call cites this file.
 use Prim.Native.Nat.{ℕ}
-use mathlib.Core.List.{[], _∷_}
+use mathlib.Core.Path.{_≡_}
+use mathlib.Core.List.{List, [], _∷_}
 use lib.ListN.{length, getD, take}
 use Rattle.layout.specs.Reasons.{number}
 use Rattle.layout.specs.declared.Reason.{Reason}
-use Rattle.rules.specs.Answers.{Answer}
+use Rattle.rules.specs.Answers.{Answer, Outcome}
 use Rattle.answers.specs.declared.Numbers.{Numbers}
 
 -- four fields, of which those that the answer does not have are 0
@@ -16,6 +17,11 @@ padded answer =
 -- the same of a refusal that has `count` fields
 abbrev pub paddedRefusal : ℕ → Reason → Numbers
 paddedRefusal count why = record { code = number why; count = count; fields = 0 ∷ 0 ∷ 0 ∷ 0 ∷ [] }
+
+-- the promise of a call whose answer is handed on in numbers: those of the outcome, and its words
+pub record Settles (outcome : Outcome) (numbers : Numbers) (words : List ℕ) : Type 0 where
+  pub answers : numbers ≡ padded (outcome .answer)
+  pub leaves : words ≡ outcome .words
 
 -- the answer that numbers stand for
 abbrev pub answerIn : Numbers → Answer

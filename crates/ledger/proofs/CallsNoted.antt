@@ -14,7 +14,8 @@ use Rattle.layout.proofs.Reasons.{number-positive}
 use Rattle.rules.specs.Answers.{Outcome, success, refusal}
 use Rattle.rules.specs.Rooms.{Needed}
 use Rattle.rules.specs.Pictures.{said}
-use Rattle.rules.specs.Causes.{Request, ReadRefused}
+use Rattle.rules.specs.Causes.{LawfulRequest, ReadRefused}
+use Rattle.rules.specs.Libraries.{Call, start, alloc, free, resize, relocate, realloc, size, view, report, write, read, ours}
 use Rattle.layout.proofs.Round.{sound-lawful}
 use Rattle.rules.proofs.Gates.{request-needed}
 use Rattle.rules.proofs.Starting.{whole-lawful}
@@ -23,7 +24,7 @@ use Rattle.rules.proofs.CallCases.{measures, size-case, Reports, reports, repor
 use Rattle.rules.proofs.RegrantCases.{Resizes, resizes, Relocates, moves, Regrants, in-place, elsewhere, resize-case, relocate-case, realloc-case}
 use Rattle.rules.proofs.PictureCalls.{Draws, draws, write-case, Takes, takes, read-case}
 use Rattle.rules.proofs.OldBlock.{still-there}
-use Rattle.ledger.specs.Events.{Call, start, alloc, free, resize, relocate, realloc, size, view, report, write, read, call, ours}
+use Rattle.ledger.specs.Events.{call}
 use Rattle.ledger.specs.Ledger.{Ledger, picturedBlocks, renews, grants, frees, regrants, effect, noted, ifDone, ledgerAfter, Done}
 use Rattle.ledger.specs.Holders.{renamed}
 use Rattle.ledger.proofs.Agreeing.{Agrees}
@@ -57,7 +58,7 @@ case-goes {fields} {n} {a} {ledger} c g f (refuses why r) = refused-goes n a led
 case-goes c g f (does {values} {after} d) = f values after d
 
 module _ (n : ℕ) (a : List ℕ) (ledger : Ledger) (g : Agrees n a ledger) where
-  needed : (w : ℕ) → Request a w → Needed (need w)
+  needed : (w : ℕ) → LawfulRequest (length a) w → Needed (need w)
   needed w r = request-needed (length a) w (sound-lawful a (g .is-sound)) r
 
   start-goes : (values after : List ℕ) → Restarts a values after → Goes n a ledger (λ b. b) after []

@@ -2,9 +2,9 @@
 use mathlib.Core.Path.{sym, ap, _∙_}
 use mathlib.Core.Bool.{true≢false}
 use Rattle.rules.specs.Answers.{Outcome}
+use Rattle.rules.specs.Libraries.{alloc, resize, relocate, realloc, read, ours}
 use Rattle.rules.proofs.Calls.{start-behaves}
 use Rattle.rules.proofs.PictureCalls.{read-leaves, reads-sound}
-use Rattle.ledger.specs.Events.{alloc, resize, relocate, realloc, read, ours}
 use Rattle.ledger.specs.Demands.{Starts, Receives, Lengths, Apart, Inside, Keeps, Lasts, Sums, RoomForAlloc, RoomForResize, RoomForRelocate}
 use Rattle.ledger.specs.Demands.{RoomForRealloc, ShrinksToNeed, Known}
 use Rattle.ledger.proofs.WantOfRoom.{alloc-room, resize-room, relocate-room, realloc-room, resize-shrinks, realloc-shrinks}

@@ -16,8 +16,9 @@ use Rattle.rules.specs.Rules.{joined, copied}
 use Rattle.rules.specs.Pictures.{pictureOf, framesFrom, line, wordsIn, standingFrom, same, said}
 use Rattle.digits.specs.Digits.{upper, worth, glyph}
 use Rattle.rules.specs.Calls.{startOn, allocBy, freeOn, regrantBy, reportOn, writeOn, readOn}
-use Rattle.ledger.specs.Events.{Call, start, alloc, free, resize, relocate, realloc, report, write as writePicture, read}
-use Rattle.ledger.specs.Events.{Event, call, store, ours}
+use Rattle.rules.specs.Libraries.{Call, start, alloc, free, resize, relocate, realloc, report, write as writePicture, read}
+use Rattle.rules.specs.Libraries.{ours}
+use Rattle.ledger.specs.Events.{Event, call, store}
 use Rattle.ledger.specs.Ledger.{Entry, enter, strike, told}
 use Rattle.ledger.specs.Gaps.{gaps}
 use Rattle.ledger.specs.Runs.{State, Allowed, answerTo, after, Run, begun, arrived, next}

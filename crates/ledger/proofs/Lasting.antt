@@ -7,7 +7,8 @@ use lib.Dec.{eqb}
 use lib.ListN.{getD}
 use borrow.Author.Tests.{eqb-true}
 use Rattle.layout.proofs.Bools.{both}
-use Rattle.ledger.specs.Events.{Event, call, store, Library, ours}
+use Rattle.rules.specs.Libraries.{Library, ours}
+use Rattle.ledger.specs.Events.{Event, call, store}
 use Rattle.ledger.specs.Ledger.{Held}
 use Rattle.ledger.specs.Runs.{State, after, Run, next}
 use Rattle.ledger.specs.Holders.{wordAfter, numberAfter, StoredLast, just, pictured, still}

@@ -8,7 +8,8 @@ use native.Mathlib.Omega.{arith}
 use lib.Dec.{leb, eqb}
 use borrow.Author.Tests.{eqb-true, eqb-false, leb-true, leb-false}
 use Rattle.rules.specs.Answers.{Answer}
-use Rattle.ledger.specs.Events.{Event, Library}
+use Rattle.rules.specs.Libraries.{Library}
+use Rattle.ledger.specs.Events.{Event}
 use Rattle.ledger.specs.Ledger.{Entry, Ledger, enter, strike, Effect, renews, grants, frees, regrants, spares, effect, told, noted, Done}
 use Rattle.ledger.specs.Ledger.{Listed, Held}
 use Rattle.ledger.specs.Runs.{State, answerTo, after}

@@ -6,9 +6,10 @@ use Prim.Native.Nat.{ℕ, _+_, _<_}
 use native.Mathlib.Omega.{arith}
 use lib.ListN.{length, getD}
 use Rattle.layout.specs.Numbers.{firstChunk, lawful}
+use Rattle.rules.specs.Libraries.{ours}
 use Rattle.rules.proofs.Starting.{start-sound, start-chunks}
 use Rattle.rules.proofs.Calls.{start-behaves}
-use Rattle.ledger.specs.Events.{Event, call, store, ours}
+use Rattle.ledger.specs.Events.{Event, call, store}
 use Rattle.ledger.specs.Ledger.{Entry, blocksFrom, Listed}
 use Rattle.ledger.specs.Runs.{State, Allowed, after, Run, begun, arrived, next}
 use Rattle.ledger.specs.Holders.{wordAfter, numberAfter, Ended}

@@ -16,8 +16,9 @@ use Rattle.rules.specs.Answers.{Answer, Outcome, success}
 use Rattle.rules.specs.Rules.{taken, freeWords, widest, liveBlocks, freeChunks}
 use Rattle.rules.specs.Pictures.{pictureLength}
 use Rattle.rules.specs.Calls.{freeOn, sizeOn, viewOn, reportOn, writeOn}
-use Rattle.rules.specs.Causes.{WriteRefused, no-length, unsound, short-text}
+use Rattle.rules.specs.Causes.{LawfulRequest, WriteRefused, no-length, unsound, short-text}
 use Rattle.rules.specs.Stands.{NoBlock}
+use Rattle.rules.specs.Libraries.{Call, start, alloc, free, resize, relocate, realloc, size, view, report, write, read, ours}
 use Rattle.layout.proofs.Round.{sound-lawful}
 use Rattle.rules.proofs.Gates.{sound-gate}
 use Rattle.rules.proofs.Searches.{block-held}
@@ -32,9 +33,8 @@ use Rattle.rules.proofs.Calls.{start-behaves, alloc-behaves, free-behaves, resi
 use Rattle.rules.proofs.Calls.{report-behaves, write-behaves, read-behaves}
 use Rattle.rules.proofs.Pictures.{picture-length}
 use Rattle.rules.proofs.PictureCalls.{writes-sound}
-use Rattle.ledger.specs.Events.{Call, start, alloc, free, resize, relocate, realloc, size, view, report, write, read, ours}
 use Rattle.ledger.specs.Ledger.{Entry, Ledger, told, Done, Listed, Unlisted, begins, ends, heldWords}
-use Rattle.ledger.specs.Demands.{LawfulRequest, HasNeed, RefusedWhen, freeWordsIn, Tells}
+use Rattle.ledger.specs.Demands.{HasNeed, RefusedWhen, freeWordsIn, Tells}
 use Rattle.ledger.proofs.Blocks.{blocks-words, blocks-count}
 use Rattle.ledger.proofs.Entries.{listed-at, laid-listed, laid-above}
 use Rattle.ledger.proofs.Agreeing.{Agrees, chunked-block, agrees-laid, agrees-lawful, listed-chunked, unlisted-block}

@@ -18,10 +18,11 @@ use Rattle.rules.specs.Pictures.{pictureOf, pictureLength, Says}
 use Rattle.rules.specs.Spots.{lowest}
 use Rattle.rules.specs.Rules.{joined, copied}
 use Rattle.rules.specs.Calls.{startOn, allocBy, freeOn, regrantBy, sizeOn, reportOn}
+use Rattle.rules.specs.Libraries.{Call, start, alloc, free, resize, relocate, realloc, size, view, report, write as writePicture, read}
+use Rattle.rules.specs.Libraries.{Library, ours}
 use Rattle.rules.proofs.Pictures.{picture-length}
 use Rattle.rules.proofs.Saying.{said-says, picture-says}
-use Rattle.ledger.specs.Events.{Call, start, alloc, free, resize, relocate, realloc, size, view, report, write as writePicture, read}
-use Rattle.ledger.specs.Events.{call, store, Library, ours}
+use Rattle.ledger.specs.Events.{call, store}
 use Rattle.ledger.specs.Gaps.{RoomShorter}
 use Rattle.ledger.specs.Ledger.{enter, strike, told, Done, Held, begins, ends}
 use Rattle.ledger.specs.Runs.{State, Allowed, after, Run, begun, arrived, next}

@@ -7,6 +7,7 @@ use mathlib.Core.Bool.{true, false}
 use mathlib.Core.List.{List, [], _∷_, _++_}
 use Prim.Native.Nat.{ℕ, _+_, _-_, _≤_, _<_}
 use native.Mathlib.Omega.{arith}
+use lib.ListN.{length}
 use Rattle.layout.specs.Numbers.{controlWords, firstChunk, headerWords, need}
 use Rattle.layout.specs.Chunks.{Chunk, free, live, total}
 use Rattle.layout.specs.Walk.{sound, chunksOf}
@@ -18,7 +19,7 @@ use Rattle.rules.specs.Rooms.{roomWords}
 use Rattle.rules.specs.Answers.{Answer, Outcome, success}
 use Rattle.rules.specs.Calls.{allocOn, resizeOn, relocateOn, reallocOn}
 use Rattle.rules.specs.Stands.{NoGap}
-use Rattle.rules.specs.Causes.{Request, Grounds, Short, ShortBlock, RegrantRefused}
+use Rattle.rules.specs.Causes.{LawfulRequest, Grounds, Short, ShortBlock, RegrantRefused}
 use Rattle.rules.proofs.Joining.{spaced-after}
 use Rattle.rules.proofs.Searches.{BlockAt, block-sizes, block-held, no-gap-shorter}
 use Rattle.rules.proofs.Rooms.{short-room}
@@ -27,7 +28,7 @@ use Rattle.rules.proofs.Given.{only-last}
 use Rattle.rules.proofs.Calls.{alloc-behaves, resize-behaves, relocate-behaves, realloc-behaves}
 use Rattle.ledger.specs.Ledger.{Entry, Ledger, Done, Listed, ends}
 use Rattle.ledger.specs.Gaps.{gapFrom, gaps, EachShorter, RoomShorter}
-use Rattle.ledger.specs.Demands.{LawfulRequest, RefusedWhen}
+use Rattle.ledger.specs.Demands.{RefusedWhen}
 use Rattle.ledger.proofs.Blocks.{Chunked}
 use Rattle.ledger.proofs.Agreeing.{Agrees, chunked-block, agrees-lawful, agrees-chunked, listed-chunked}
 use Rattle.ledger.proofs.Gaps.{gapsIn, gaps-blocks, gaps-shorter, gap-above}
@@ -95,7 +96,7 @@ module _ (n : ℕ) (a : List ℕ) (ledger : Ledger) (agrees : Agrees n a ledger)
       ) in
       rw (block-room above e k) (Iff·trans own (short-room (k .s) (k .post) (need w)))
 
-  lawful-request : (w : ℕ) → LawfulRequest n w → Request a w
+  lawful-request : (w : ℕ) → LawfulRequest n w → LawfulRequest (length a) w
   lawful-request w r = (r .0, omega (arith, agrees .long))
 
   -- ---- the calls

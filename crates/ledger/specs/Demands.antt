@@ -12,17 +12,14 @@ use Rattle.layout.specs.declared.Reason.{Reason}
 use Rattle.layout.specs.declared.Reason.the-variants.{Length, Damaged, NotABlock, NoRoom, WouldMove, TextRoom}
 use Rattle.layout.specs.Walk.{sound}
 use Rattle.rules.specs.Answers.{Answer, success}
+use Rattle.rules.specs.Causes.{LawfulRequest}
 use Rattle.rules.specs.Pictures.{pictureLength, Says}
-use Rattle.ledger.specs.Events.{Call, start, alloc, free, resize, relocate, realloc, size, view, report, write, read, Event, Library}
+use Rattle.rules.specs.Libraries.{Call, start, alloc, free, resize, relocate, realloc, size, view, report, write, read, Library}
+use Rattle.ledger.specs.Events.{Event}
 use Rattle.ledger.specs.Ledger.{Entry, Ledger, told, Done, Listed, Unlisted, begins, ends, heldWords}
 use Rattle.ledger.specs.Gaps.{gapFrom, gaps, EachShorter, RoomShorter}
 use Rattle.ledger.specs.Runs.{State, Allowed, after, Run}
 use Rattle.ledger.specs.Holders.{wordAfter, numberAfter, Ended, StoredLast}
-
--- a request to which neither reason 4 nor reason 5 applies; in a run 1 and 2 never apply, nor 3 to a block of the
--- ledger
-abbrev pub LawfulRequest : ℕ → ℕ → Type 0
-LawfulRequest n w = (1 ≤ w) × (w ≤ greatestRequest n)
 
 -- `s` words, header counted, have the need of a request for `w`, and fewer over than would be split off
 abbrev pub HasNeed : ℕ → ℕ → Type 0
@@ -90,7 +87,8 @@ module _ (library : Library) where
   Sums = (n : ℕ) (s : State) → Run library n s → freeWordsIn (library report (s .words) .answer) + heldWords (s .ledger) ≡ n - controlWords
 
   -- "A lawful alloc is refused for want of room exactly when every gap left by ledger blocks and their headers is
-  -- shorter than its need;"
+  -- shorter than its need;" of the reasons before 6, neither 1 nor 2 applies in a run, nor does 3 to a block of the
+  -- ledger
   abbrev pub RoomForAlloc : (ℕ → Call) → Type 0
   RoomForAlloc allocs =
       (n : ℕ) (s : State) → Run library n s → (w : ℕ) → LawfulRequest n w

@@ -9,7 +9,8 @@ use lib.ListN.{getD}
 use lib.Dec.{eqb}
 use Rattle.rules.specs.Answers.{Answer}
 use Rattle.rules.specs.Pictures.{Said, bad, good, said}
-use Rattle.ledger.specs.Events.{Event, call, store, read, Library}
+use Rattle.rules.specs.Libraries.{read, Library}
+use Rattle.ledger.specs.Events.{Event, call, store}
 use Rattle.ledger.specs.Ledger.{Ledger, Effect, renews, grants, frees, regrants, spares, effect, told, ifDone, Done, Held}
 use Rattle.ledger.specs.Runs.{State, Allowed, answerTo, after, Run}
 

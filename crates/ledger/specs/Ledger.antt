@@ -5,14 +5,14 @@ use mathlib.Core.Path.{_≡_}
 use mathlib.Core.Logic.{_⊎_, _≢_}
 use mathlib.Core.Bool.{cond}
 use mathlib.Core.List.{List, [], _∷_}
-use lib.ListN.{getD}
 use lib.Dec.{leb, eqb}
 use Rattle.layout.specs.Numbers.{firstChunk, headerWords}
 use Rattle.layout.specs.Chunks.{Chunk, free as freeChunk, live}
 use Rattle.layout.specs.Walk.{chunksOf}
-use Rattle.rules.specs.Answers.{Answer}
+use Rattle.rules.specs.Answers.{Answer, blockIn, grantedIn}
 use Rattle.rules.specs.Pictures.{Said, bad, good, said}
-use Rattle.ledger.specs.Events.{start, alloc, free, resize, relocate, realloc, size, view, report, write, read, Event, call, store}
+use Rattle.rules.specs.Libraries.{start, alloc, free, resize, relocate, realloc, size, view, report, write, read}
+use Rattle.ledger.specs.Events.{Event, call, store}
 
 -- a block's number and its granted words
 pub record Entry : Type 0 where
@@ -78,7 +78,7 @@ effect (store b i v) = spares
 
 -- the block and the granted words that an answer tells (0 where it has no such field)
 abbrev pub told : Answer → Entry
-told answer = record { block = getD (answer .values) 0 0; granted = getD (answer .values) 1 0 }
+told answer = record { block = blockIn (answer .values); granted = grantedIn (answer .values) }
 
 -- what an event that is done makes of the ledger
 abbrev pub noted : Effect → Answer → Ledger → Ledger

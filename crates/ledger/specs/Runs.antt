@@ -6,7 +6,8 @@ use mathlib.Core.List.{List, []}
 use lib.ListN.{length}
 use Rattle.layout.specs.Numbers.{wordValues, lawful}
 use Rattle.rules.specs.Answers.{Answer}
-use Rattle.ledger.specs.Events.{start, read, Event, call, store, Library, happens}
+use Rattle.rules.specs.Libraries.{start, read, Library}
+use Rattle.ledger.specs.Events.{Event, call, store, happens}
 use Rattle.ledger.specs.Ledger.{Ledger, ledgerAfter, Done, Held}
 
 pub record State : Type 0 where

@@ -4,8 +4,7 @@ use mathlib.Core.Bool.{cond}
 use mathlib.Core.List.{List, [], _∷_, _++_}
 use lib.ListN.{length, take, drop}
 use lib.Dec.{leb, eqb}
-use Rattle.layout.specs.declared.Reason.the-variants.{Frame}
-use Rattle.rules.specs.Answers.{Answer, refusal, Outcome}
+use Rattle.rules.specs.Answers.{Answer, Outcome, noCall}
 use Rattle.rules.specs.Calls.{startOn, allocOn, freeOn, reallocOn, reportOn}
 use Rattle.digits.specs.Digits.{lineEnd, twoDigits, fourDigits, inDigits}
 use Rattle.requests.specs.Requests.{kindOf}
@@ -54,7 +53,7 @@ outcomeOf (Alloc n) board = allocOn (lentOf board) n
 outcomeOf (Free b) board = freeOn (lentOf board) b
 outcomeOf (Realloc b n) board = reallocOn (lentOf board) b n
 outcomeOf Report board = reportOn (lentOf board)
-outcomeOf Malformed board = record { answer = refusal 0 Frame; words = lentOf board }
+outcomeOf Malformed board = noCall (lentOf board)
 
 -- how many words are lent once a request is done: a start's number, from then on
 abbrev pub lentAfter : Request → Board → ℕ

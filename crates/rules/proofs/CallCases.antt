@@ -22,7 +22,7 @@ use Rattle.rules.specs.Calls.{onBlock, granted, startOn, allocBy, allocO
 use Rattle.rules.specs.Stands.{GapAt}
 use Rattle.rules.proofs.Searches.{BlockAt, BlockSearch, no-block, a-block, block-search, GapSearch, no-gap, a-gap, gap-search}
 use Rattle.rules.proofs.Gates.{Checked, unlawful, damaged, whole, checked, Asked, for-none, for-more, for-some, asked}
-use Rattle.rules.specs.Causes.{Request, StartRefused, ReportRefused, BlockRefused, AllocRefused}
+use Rattle.rules.specs.Causes.{LawfulRequest, StartRefused, ReportRefused, BlockRefused, AllocRefused}
 
 -- an outcome of a call on the words `a`: `Refuses` is what the reasons say, and `Does` what is known of the fields and
 -- the words if it is done
@@ -63,7 +63,7 @@ start-case a = go (lawful (length a)) refl
 
 -- what alloc does: the need is taken from a free chunk that fits; which one, its definition says
 pub data Allots (a : List ℕ) (n : ℕ) : List ℕ → List ℕ → Type 0 where
-  allots : sound a ≡ true → Request a n → (pre : List Chunk) (s : ℕ) (post : List Chunk) → GapAt a (need n) pre s post
+  allots : sound a ≡ true → LawfulRequest (length a) n → (pre : List Chunk) (s : ℕ) (post : List Chunk) → GapAt a (need n) pre s post
       → Allots a n ((firstChunk + total pre + (s - taken (need n) s) + headerWords) ∷ (taken (need n) s - headerWords) ∷ [])
       (written (pre ++ (cut (need n) s ++ post)) a)
 

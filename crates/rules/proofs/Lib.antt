@@ -25,3 +25,4 @@ pub mod Largest
 pub mod Shrinking
 pub mod EmptyViews
 pub mod BlockNumbers
+pub mod Batches

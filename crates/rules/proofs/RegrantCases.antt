@@ -26,7 +26,7 @@ use Rattle.rules.proofs.Staying.{in-room, KeepsOfRoom, keeps-of-room}
 use Rattle.rules.proofs.Remainder.{shorter-old}
 use Rattle.rules.specs.Stands.{GapAt}
 use Rattle.rules.proofs.Searches.{BlockAt, block-sizes, BlockSearch, no-block, a-block, block-search, GapSearch, no-gap, a-gap, gap-search}
-use Rattle.rules.specs.Causes.{Request, Short, RegrantRefused, ResizeRefused, RelocateRefused, ReallocRefused}
+use Rattle.rules.specs.Causes.{LawfulRequest, Short, RegrantRefused, ResizeRefused, RelocateRefused, ReallocRefused}
 use Rattle.rules.proofs.CallCases.{Case, refuses, does}
 use Rattle.rules.proofs.Gates.{Checked, unlawful, damaged, whole, checked, Asked, for-none, for-more, for-some, asked}
 
@@ -51,13 +51,13 @@ stays-told a b need pre s post e is = rw (in-room b need pre s a post sizes) (go
 
 -- resize: the block keeps words of its room
 pub data Resizes (a : List ℕ) (b n : ℕ) : List ℕ → List ℕ → Type 0 where
-  resizes : sound a ≡ true → Request a n → (pre : List Chunk) (s : ℕ) (post : List Chunk) → BlockAt a b pre s post → (keep : ℕ)
+  resizes : sound a ≡ true → LawfulRequest (length a) n → (pre : List Chunk) (s : ℕ) (post : List Chunk) → BlockAt a b pre s post → (keep : ℕ)
       → KeepsOfRoom (need n) s post keep
       → Resizes a b n (b ∷ (keep - headerWords) ∷ []) (written (pre ++ (trim keep (roomWords s post) ++ roomAfter post)) a)
 
 -- relocate: the block moves to a new block of a free chunk that fits; which one, the definition says
 pub data Relocates (a : List ℕ) (b n : ℕ) : List ℕ → List ℕ → Type 0 where
-  moves : sound a ≡ true → Request a n → (pre : List Chunk) (s : ℕ) (post : List Chunk) → BlockAt a b pre s post
+  moves : sound a ≡ true → LawfulRequest (length a) n → (pre : List Chunk) (s : ℕ) (post : List Chunk) → BlockAt a b pre s post
       → (before : List Chunk) (g : ℕ) (after : List Chunk) → GapAt a (need n) before g after
       → (block : ℕ) → block ≡ firstChunk + total before + (g - taken (need n) g) + headerWords → (ks : List Chunk)
       → ks ≡ before ++ (cut (need n) g ++ after)
@@ -77,7 +77,7 @@ module _ (a : List ℕ) (b n : ℕ) where
   pub data Regrantings (room stuck : Type 0) : (Reason → Regrant → Outcome) → Type 0 where
     all-refused : (why : Reason) → number why < number NoRoom → RegrantRefused a b n room stuck why
         → Regrantings room stuck (λ last rule. settle 2 a (refused why))
-    at-block : sound a ≡ true → Request a n → (pre : List Chunk) (s : ℕ) (post : List Chunk) → BlockAt a b pre s post
+    at-block : sound a ≡ true → LawfulRequest (length a) n → (pre : List Chunk) (s : ℕ) (post : List Chunk) → BlockAt a b pre s post
         → Regrantings room stuck (λ last rule. settle 2 a
         (granted last (rule b (need n) (at pre (live s) post) (grantFrom (need n) (firstFit (need n) (chunksOf a))) a)))
 
@@ -98,7 +98,7 @@ module _ (a : List ℕ) (b n : ℕ) where
 
   -- a call that grants a block anew is refused before its rule is asked, or all depends on the rule at the block
   regrant-case : (why : Reason) (rule : Regrant) (room stuck : Type 0) (Does : List ℕ → List ℕ → Type 0)
-      → (sound a ≡ true → Request a n → (pre : List Chunk) (s : ℕ) (post : List Chunk) → BlockAt a b pre s post → (gap : Spot)
+      → (sound a ≡ true → LawfulRequest (length a) n → (pre : List Chunk) (s : ℕ) (post : List Chunk) → BlockAt a b pre s post → (gap : Spot)
       → GapSearch a (need n) gap
       → Case 2 a (RegrantRefused a b n room stuck) Does
       (settle 2 a (granted why (rule b (need n) (at pre (live s) post) (grantFrom (need n) gap) a))))
@@ -113,7 +113,7 @@ module _ (a : List ℕ) (b n : ℕ) where
   resize-case =
       regrant-case WouldMove resized _ _ (Resizes a b n) (λ e r pre s post is gap g. go pre s post e r is (stays-told a b (need n) pre s post e is))
     where
-      go : {way : Way} (pre : List Chunk) (s : ℕ) (post : List Chunk) → sound a ≡ true → Request a n → BlockAt a b pre s post
+      go : {way : Way} (pre : List Chunk) (s : ℕ) (post : List Chunk) → sound a ≡ true → LawfulRequest (length a) n → BlockAt a b pre s post
           → Stays a b (need n) pre s post way
           → Case 2 a (ResizeRefused a b n) (Resizes a b n) (settle 2 a (granted WouldMove way))
       go pre s post e r is (by-room keep k) = does (resizes e r pre s post is keep k)
@@ -122,7 +122,7 @@ module _ (a : List ℕ) (b n : ℕ) where
   pub relocate-case : Case 2 a (RelocateRefused a b n) (Relocates a b n) (relocateOn a b n)
   relocate-case = regrant-case NoRoom relocated _ _ (Relocates a b n) (λ e r pre s post is gap g. go pre s post e r is g)
     where
-      go : {gap : Spot} (pre : List Chunk) (s : ℕ) (post : List Chunk) → sound a ≡ true → Request a n → BlockAt a b pre s post
+      go : {gap : Spot} (pre : List Chunk) (s : ℕ) (post : List Chunk) → sound a ≡ true → LawfulRequest (length a) n → BlockAt a b pre s post
           → GapSearch a (need n) gap
           → Case 2 a (RelocateRefused a b n) (Relocates a b n)
           (settle 2 a (granted NoRoom (relocated b (need n) (at pre (live s) post) (grantFrom (need n) gap) a)))
@@ -133,7 +133,7 @@ module _ (a : List ℕ) (b n : ℕ) where
   realloc-case = regrant-case NoRoom regranted _ _ (Regrants a b n)
       (λ e r pre s post is gap g. go pre s post e r is (stays-told a b (need n) pre s post e is) g)
     where
-      go : {way : Way} {gap : Spot} (pre : List Chunk) (s : ℕ) (post : List Chunk) → sound a ≡ true → Request a n → BlockAt a b pre s post
+      go : {way : Way} {gap : Spot} (pre : List Chunk) (s : ℕ) (post : List Chunk) → sound a ≡ true → LawfulRequest (length a) n → BlockAt a b pre s post
           → Stays a b (need n) pre s post way → GapSearch a (need n) gap
           → Case 2 a (ReallocRefused a b n) (Regrants a b n)
           (settle 2 a (granted NoRoom (orElse way (move b (s - headerWords) (grantFrom (need n) gap) a))))

@@ -27,7 +27,7 @@ use Rattle.rules.proofs.Joining.{Clear}
 use Rattle.rules.proofs.Rooms.{room-words}
 use Rattle.rules.proofs.Remainder.{takes-all}
 use Rattle.rules.proofs.Searches.{BlockAt, block-sizes, block-held}
-use Rattle.rules.specs.Causes.{Request}
+use Rattle.rules.specs.Causes.{LawfulRequest}
 use Rattle.rules.proofs.Gates.{sound-gate, request-gate, request-needed}
 use Rattle.rules.proofs.Staying.{in-room, its-need, kept-lawful}
 
@@ -66,7 +66,7 @@ trim-beside need s t post some enough = rw (lt-leb (s + t) need (omega arith)) (
 -- ---- the two calls that try way 1
 
 module _ (a : List ℕ) (b : ℕ) (pre : List Chunk) (s : ℕ) (post : List Chunk) (e : sound a ≡ true) (is : BlockAt a b pre s post) (n : ℕ)
-    (r : Request a n) (enough : need n ≤ roomWords s post) where
+    (r : LawfulRequest (length a) n) (enough : need n ≤ roomWords s post) where
   abbrev keep : ℕ
   keep = keptOf (need n) s (roomWords s post)
 
@@ -98,7 +98,7 @@ module _ (a : List ℕ) (b : ℕ) (pre : List Chunk) (s : ℕ) (post : List Chun
       rw (none-leave (need n) s post z none, trim-same s post z) (written-fixed (pre ++ live s ∷ post) a r)
 
 module _ (a : List ℕ) (b : ℕ) (pre : List Chunk) (s : ℕ) (post : List Chunk) (e : sound a ≡ true) (is : BlockAt a b pre s post) (n : ℕ)
-    (r : Request a n) (none : NoneLeave (need n) s post) where
+    (r : LawfulRequest (length a) n) (none : NoneLeave (need n) s post) where
   enough : need n ≤ roomWords s post
   enough = omega (arith, few-over (need n) s post none, room-words s post)
 
@@ -112,7 +112,7 @@ module _ (a : List ℕ) (b : ℕ) (pre : List Chunk) (s : ℕ) (post : List Chun
 -- ---- a free chunk of `t` words right after it
 
 module _ (a : List ℕ) (b : ℕ) (pre : List Chunk) (s t : ℕ) (post : List Chunk) (e : sound a ≡ true) (is : BlockAt a b pre s (free t ∷ post)) (n : ℕ)
-    (r : Request a n) (enough : need n ≤ s) where
+    (r : LawfulRequest (length a) n) (enough : need n ≤ s) where
   -- the chunks once the free chunk has taken all words over, and the words then
   abbrev shrunk : List Chunk
   shrunk = pre ++ live (need n) ∷ free (s - need n + t) ∷ post

@@ -12,10 +12,11 @@ use Rattle.layout.specs.declared.Reason.{Reason}
 use Rattle.layout.specs.declared.Reason.the-variants.{Length, Damaged, NotABlock, Zero, TooLarge, NoRoom, Frame, WouldMove, TextRoom}
 use Rattle.rules.specs.Stands.{Stands, SomeBlock, NoBlock, NoGap}
 use Rattle.rules.specs.Pictures.{pictureOf, Says}
+use Rattle.rules.specs.Libraries.{Call, start, alloc, free as release, resize, relocate, realloc, size, view, report, write, read}
 
--- a request that an arena may be asked for
-abbrev pub Request : List ℕ → ℕ → Type 0
-Request a n = (1 ≤ n) × (n ≤ greatestRequest (length a))
+-- a request for `w` words that an arena of `n` words may be asked: neither reason 4 nor reason 5 applies to it
+abbrev pub LawfulRequest : ℕ → ℕ → Type 0
+LawfulRequest n w = (1 ≤ w) × (w ≤ greatestRequest n)
 
 -- what the reasons say of a call on the words `a`: all calls but start, and the two for pictures below, have the first
 -- two like this, and `block`, `zero`, `large`, `room` and `stuck` are the call's own
@@ -41,7 +42,7 @@ abbrev pub BlockRefused : List ℕ → ℕ → Reason → Type 0
 BlockRefused a b = Grounds a (NoBlock a b) ⊥ ⊥ ⊥ ⊥
 
 abbrev pub AllocRefused : List ℕ → ℕ → Reason → Type 0
-AllocRefused a n = Grounds a ⊥ (n ≡ 0) (greatestRequest (length a) < n) (Request a n × NoGap a (need n)) ⊥
+AllocRefused a n = Grounds a ⊥ (n ≡ 0) (greatestRequest (length a) < n) (LawfulRequest (length a) n × NoGap a (need n)) ⊥
 
 -- a chunk of `s` words has fewer than the need, and so it has with those of a free chunk right after it, at the head of
 -- `post`
@@ -58,13 +59,13 @@ RegrantRefused a b n room stuck =
     Grounds a (NoBlock a b) (SomeBlock a b × (n ≡ 0)) (SomeBlock a b × (greatestRequest (length a) < n)) room stuck
 
 abbrev pub ResizeRefused : List ℕ → ℕ → ℕ → Reason → Type 0
-ResizeRefused a b n = RegrantRefused a b n ⊥ (Request a n × ShortBlock a b (need n))
+ResizeRefused a b n = RegrantRefused a b n ⊥ (LawfulRequest (length a) n × ShortBlock a b (need n))
 
 abbrev pub RelocateRefused : List ℕ → ℕ → ℕ → Reason → Type 0
-RelocateRefused a b n = RegrantRefused a b n (Request a n × SomeBlock a b × NoGap a (need n)) ⊥
+RelocateRefused a b n = RegrantRefused a b n (LawfulRequest (length a) n × SomeBlock a b × NoGap a (need n)) ⊥
 
 abbrev pub ReallocRefused : List ℕ → ℕ → ℕ → Reason → Type 0
-ReallocRefused a b n = RegrantRefused a b n (Request a n × ShortBlock a b (need n) × NoGap a (need n)) ⊥
+ReallocRefused a b n = RegrantRefused a b n (LawfulRequest (length a) n × ShortBlock a b (need n) × NoGap a (need n)) ⊥
 
 -- to write a picture: the last is that the lent text is shorter than the picture
 pub data WriteRefused (a text : List ℕ) : Reason → Type 0 where
@@ -79,3 +80,17 @@ pub data ReadRefused (text a : List ℕ) : Reason → Type 0 where
   other-length : (ws : List ℕ) → Says text ws → length ws ≢ length a → ReadRefused text a Length
   no-length : (ws : List ℕ) → Says text ws → lawful (length ws) ≡ false → ReadRefused text a Length
   unsound : (ws : List ℕ) → Says text ws → length ws ≡ length a → lawful (length ws) ≡ true → sound ws ≡ false → ReadRefused text a Damaged
+
+-- the same by the call; a view is never refused
+abbrev pub CallRefused : Call → List ℕ → Reason → Type 0
+CallRefused start a why = StartRefused a why
+CallRefused (alloc w) a why = AllocRefused a w why
+CallRefused (release b) a why = BlockRefused a b why
+CallRefused (resize b w) a why = ResizeRefused a b w why
+CallRefused (relocate b w) a why = RelocateRefused a b w why
+CallRefused (realloc b w) a why = ReallocRefused a b w why
+CallRefused (size b) a why = BlockRefused a b why
+CallRefused (view b) a why = ⊥
+CallRefused report a why = ReportRefused a why
+CallRefused (write text) a why = WriteRefused a text why
+CallRefused (read text) a why = ReadRefused text a why

@@ -3,7 +3,9 @@ pub mod Spots
 pub mod Rules
 pub mod Pictures
 pub mod Calls
+pub mod Libraries
 pub mod Stands
 pub mod Causes
 pub mod Behaves
 pub mod Rooms
+pub mod Batches

@@ -1,2 +1,20 @@
-// The rules of the calls, and every theorem that follows from them. Statements and proofs alone: this crate has no
-// code.
+// The rules of the calls, and every theorem that follows from them. Statements and proofs, and the records of which the
+// rules of a batch speak: this crate has no function.
+
+// One request of a batch: what is asked, a kind and two numbers, and what is answered, which is filled in.
+#[repr(C)]
+pub struct Request {
+    pub kind: u32,
+    pub b: u32,
+    pub n: u32,
+    pub code: u32,
+    pub block: u32,
+    pub granted: u32,
+}
+
+// What is answered to one request.
+pub struct Served {
+    pub code: u32,
+    pub block: u32,
+    pub granted: u32,
+}

@@ -1,27 +1,23 @@
 -- What the contracts of the calls say of a case.
 use Prim.Native.Nat.{ℕ, _≤_}
-use mathlib.Core.Path.{_≡_, refl, ap, _∙_}
+use mathlib.Core.Path.{_≡_, refl, ap}
 use mathlib.Core.Logic.{_≢_}
 use mathlib.Core.Bool.{false}
 use mathlib.Core.List.{List}
 use native.Mathlib.Omega.{arith}
 use lib.ListN.{length, length-take, length-drop}
 use borrow.Author.Tests.{ne-eqb}
-use Rattle.rules.specs.Answers.{Answer, Outcome, Gives}
+use Rattle.rules.specs.Answers.{noCall}
 use Rattle.rules.specs.Calls.{viewOn}
 use Rattle.arena.specs.Views.{Views}
-use Rattle.answers.specs.Padded.{padded}
+use Rattle.answers.specs.Padded.{Settles}
 use Rattle.answers.specs.declared.Numbers.{Numbers}
 use Rattle.spelling.specs.Copies.{Begins}
-use Rattle.trials.specs.Trials.{unknown, outcomeOf, isView, Settles, Replies}
-
--- a call gives an answer, and `r` is that answer's numbers
-pub settled : {o : Outcome} {x : Answer} {words : List ℕ} {r : Numbers} → Gives o x words → r ≡ padded x → Settles o r words
-settled g e = record { answers = e ∙ ap padded (g .answers); leaves = g .leaves }
+use Rattle.trials.specs.Trials.{outcomeOf, isView, Replies}
 
 -- a number that is none of the eight
 pub unknown-call : (call b n : ℕ) (a : List ℕ) → call ≢ 1 → call ≢ 2 → call ≢ 3 → call ≢ 4 → call ≢ 5 → call ≢ 6 → call ≢ 9 → call ≢ 10
-    → outcomeOf call b n a ≡ unknown a
+    → outcomeOf call b n a ≡ noCall a
 unfolding outcomeOf
 unknown-call call b n a n1 n2 n3 n4 n5 n6 n9 n10 =
     simp (

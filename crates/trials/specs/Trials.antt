@@ -6,19 +6,13 @@ use mathlib.Core.Bool.{Bool, cond, _||_}
 use mathlib.Core.List.{List, [], _∷_}
 use lib.ListN.{length, getD}
 use lib.Dec.{eqb}
-use Rattle.layout.specs.declared.Reason.the-variants.{Frame}
-use Rattle.rules.specs.Answers.{Answer, Outcome, success, refusal}
+use Rattle.rules.specs.Answers.{Answer, Outcome, success, noCall}
 use Rattle.rules.specs.Calls.{startOn, allocOn, freeOn, resizeOn, relocateOn, reallocOn, reportOn, sizeOn, viewOn}
 use Rattle.answers.specs.Padded.{padded}
 use Rattle.spelling.specs.Copies.{Begins}
-use Rattle.answers.specs.declared.Numbers.{Numbers}
 use Rattle.trials.specs.declared.replies.Reply.{Reply}
 
 -- ---- the calls that have an answer
-
--- a number that names no call is answered 7, and nothing changes
-abbrev pub unknown : List ℕ → Outcome
-unknown a = record { answer = refusal 0 Frame; words = a }
 
 -- what call number `call` comes to, on block `b` or for `n` words; 7 and 8 are the views, below
 unfoldable pub outcomeOf : ℕ → ℕ → ℕ → List ℕ → Outcome
@@ -31,12 +25,7 @@ outcomeOf call b n a =
     (cond (eqb call 6) (sizeOn a b)
     (cond (eqb call 9) (resizeOn a b n)
     (cond (eqb call 10) (relocateOn a b n)
-    (unknown a))))))))
-
--- the promise of `answer`: the numbers of the outcome, and its words
-pub record Settles (outcome : Outcome) (x : Numbers) (words : List ℕ) : Type 0 where
-  pub answers : x ≡ padded (outcome .answer)
-  pub leaves : words ≡ outcome .words
+    (noCall a))))))))
 
 -- ---- the calls that hand words back
 

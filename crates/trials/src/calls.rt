@@ -1,7 +1,8 @@
 // The calls by their numbers, and their answers in numbers.
 use answers::Numbers;
 use layout::Reason;
-ghost use Rattle.trials.specs.Trials.{outcomeOf, Settles};
+ghost use Rattle.answers.specs.Padded.{Settles};
+ghost use Rattle.trials.specs.Trials.{outcomeOf};
 
 // Makes the call of number `call` on the arena; a number that names none of these eight is answered as a malformed line
 // is.

@@ -7,11 +7,13 @@ use answers::Numbers;
 use answers::Reported;
 use answers::Sized;
 use answers::Written;
+use batch::Request;
 ghost use mathlib.Core.Path.{_≡_};
 ghost use mathlib.Core.List.{[], _∷_};
 ghost use lib.ListN.{getD};
 ghost use Rattle.rules.specs.Answers.{Gives};
 ghost use Rattle.rules.specs.Calls.{startOn, allocOn, freeOn, resizeOn, relocateOn, reallocOn, sizeOn, reportOn, readOn};
+ghost use Rattle.rules.specs.Batches.{batchOn, Fills};
 ghost use Rattle.answers.specs.Readings.{finishNumbers, grantedNumbers, sizedNumbers, reportedNumbers, writtenNumbers};
 ghost use Rattle.picture.specs.Writing.{Writes};
 ghost use Rattle.desk.specs.Checks.{gateNumber, bytesGate};
@@ -103,6 +105,18 @@ pub extern "C" fn zv_check(spelled: &[u8]) -> u32
     ensures { λ r. ⌜ r ≡ gateNumber (bytesGate (now (spelled .entry))) ⌝ }
 {
     desk::check(spelled)
+}
+
+// Answers each request of a list, in order, in its own record.
+#[no_mangle]
+pub extern "C" fn zv_batch(a: &mut [u32], requests: &mut [Request])
+    ensures { λ _. ⌜ Fills (batchOn (now (a .entry)) (now (requests .entry))) (now (requests .exit)) (now (a .exit)) ⌝ }
+{
+    let mut i = 0;
+    while i < requests.len() {
+        requests[i] = batch::fill(a, requests[i]);
+        i += 1;
+    }
 }
 
 // What start, free and the reading of a picture tell: the code alone.

@@ -2,8 +2,9 @@
 -- rest.
 use mathlib.Core.Path.{refl}
 use borrow.Author.Needs.{needs}
+use Rattle.answers.proofs.Padded.{settled}
 use Rattle.trials.specs.Trials.{outcomeOf}
-use Rattle.trials.proofs.Trials.{settled, unknown-call}
+use Rattle.trials.proofs.Trials.{unknown-call}
 use Rattle.trials.proofs.calls.answer.Statement.{statement}
 use Rattle.trials.proofs.calls.answer.Tie as tie
 

@@ -1,0 +1,146 @@
+-- What a batch comes to: one record after the other, each as its call made singly.
+use Prim.Native.Nat.{ℕ, zero, suc}
+use mathlib.Core.Path.{_≡_, refl, sym, ap, _∙_}
+use mathlib.Core.Logic.{_≢_, _↔_}
+use mathlib.Core.Bool.{Bool, true, false, cond}
+use mathlib.Core.List.{List, [], _∷_, _++_}
+use native.Mathlib.Omega.{arith}
+use lib.ListN.{length, replicate}
+use lib.Dec.{eqb}
+use borrow.Author.Tests.{ne-eqb}
+use Rattle.layout.specs.Walk.{sound}
+use Rattle.layout.specs.Reasons.{number}
+use Rattle.layout.specs.declared.Reason.{Reason}
+use Rattle.layout.specs.declared.Reason.the-variants.{Frame}
+use Rattle.layout.proofs.Reasons.{number-positive, number-injective}
+use Rattle.rules.specs.Answers.{Outcome, blockIn, grantedIn, noCall}
+use Rattle.rules.specs.Behaves.{Behaves}
+use Rattle.rules.specs.Libraries.{Call, start, alloc, free, resize, relocate, realloc, size, view, report, write, read, Library, ours}
+use Rattle.rules.specs.Batches.{Wanted, known, unknown, wanted, madeSingly, WantedRefused, fieldsOf, served, wantedIn, filled, Batch, batchBy, batchOn}
+use Rattle.rules.specs.Batches.{Serves, FillsOne}
+use Rattle.rules.specs.declared.Request.{Request}
+use Rattle.rules.specs.declared.Served.{Served}
+use Rattle.rules.proofs.Calls.{start-behaves, alloc-behaves, free-behaves, resize-behaves, relocate-behaves, realloc-behaves, size-behaves}
+use Rattle.rules.proofs.Calls.{report-behaves, write-behaves, read-behaves}
+
+-- ---- one request
+
+-- a kind that is none of the six asks for nothing that is known
+pub unknown-kind : (kind b n : ℕ) → kind ≢ 1 → kind ≢ 2 → kind ≢ 3 → kind ≢ 4 → kind ≢ 5 → kind ≢ 6 → wanted kind b n ≡ unknown
+unfolding wanted
+unknown-kind kind b n n1 n2 n3 n4 n5 n6 =
+    simp (ne-eqb kind 1 n1, ne-eqb kind 2 n2, ne-eqb kind 3 n3, ne-eqb kind 4 n4, ne-eqb kind 5 n5, ne-eqb kind 6 n6)
+
+-- whoever serves a request, and fills in what was served, has filled its record
+pub served-fills : {outcome : Outcome} {to : Served} {words : List ℕ} (request : Request) → Serves outcome to words
+    → FillsOne outcome request (filled request to) words
+served-fills request g = record { answers = ap (filled request) (g .answers); leaves = g .leaves }
+
+-- ---- a batch, by any library
+
+module _ (library : Library) where
+  -- the empty batch changes nothing
+  pub batch-none : (a : List ℕ) → batchBy library a [] ≡ record { records = []; words = a }
+  unfolding batchBy
+  batch-none a = refl
+
+  -- the first record is answered as its call made singly, and the others on the words that this leaves
+  pub batch-more : (a : List ℕ) (r : Request) (rs : List Request)
+      → let outcome = madeSingly library (wantedIn r) a in
+      let rest = batchBy library (outcome .words) rs in
+      batchBy library a (r ∷ rs) ≡ record { records = filled r (served (outcome .answer)) ∷ rest .records; words = rest .words }
+  unfolding batchBy
+  batch-more a r rs = refl
+
+  -- a batch of one is the call
+  pub batch-one : (a : List ℕ) (r : Request)
+      → let outcome = madeSingly library (wantedIn r) a in
+      batchBy library a (r ∷ []) ≡ record { records = filled r (served (outcome .answer)) ∷ []; words = outcome .words }
+  unfolding batchBy
+  batch-one a r = refl
+
+  -- a batch of two lists is the one, and then the other
+  pub batch-both : (a : List ℕ) (rs ss : List Request)
+      → let first = batchBy library a rs in
+      let second = batchBy library (first .words) ss in
+      batchBy library a (rs ++ ss) ≡ record { records = first .records ++ second .records; words = second .words }
+  unfolding batchBy
+  batch-both a [] ss = refl
+  batch-both a (r ∷ rs) ss =
+      let outcome = madeSingly library (wantedIn r) a in
+      ap (λ (b : Batch). record { records = filled r (served (outcome .answer)) ∷ b .records; words = b .words }) (batch-both (outcome .words) rs ss)
+
+  -- there are as many records as before
+  pub batch-count : (a : List ℕ) (rs : List Request) → length (batchBy library a rs .records) ≡ length rs
+  unfolding batchBy
+  batch-count a [] = refl
+  batch-count a (r ∷ rs) = ap suc (batch-count (madeSingly library (wantedIn r) a .words) rs)
+
+-- ---- our calls
+
+module _ (a : List ℕ) where
+  view-behaves : (b : ℕ) → Behaves 0 a (λ why. ⊥) (ours (view b) a)
+  view-behaves b =
+      record {
+        refused = λ why. (λ e. absurd (omega (arith, number-positive why)), absurd);
+        done = (λ z why h. h, λ h. refl);
+        unchanged = λ n. refl;
+        zeros = λ n. absurd (n refl);
+        same-length = refl;
+        still-sound = λ e. e;
+      }
+
+  unknown-behaves : Behaves 0 a (λ why. why ≡ Frame) (noCall a)
+  unknown-behaves =
+      record {
+        refused = λ why. (λ e. number-injective why Frame (sym e), λ e. ap number (sym e));
+        done = (λ z. absurd (omega (arith, number-positive Frame)), λ h. absurd (h Frame refl));
+        unchanged = λ n. refl;
+        zeros = λ n. refl;
+        same-length = refl;
+        still-sound = λ e. e;
+      }
+
+  -- a request behaves as its call does; one of an unknown kind is refused with Frame, whatever the words are
+  pub wanted-behaves : (w : Wanted) → Behaves (fieldsOf w) a (WantedRefused w a) (madeSingly ours w a)
+  wanted-behaves (known start) = start-behaves a
+  wanted-behaves (known (alloc w)) = alloc-behaves a w
+  wanted-behaves (known (free b)) = free-behaves a b
+  wanted-behaves (known (resize b w)) = resize-behaves a b w
+  wanted-behaves (known (relocate b w)) = relocate-behaves a b w
+  wanted-behaves (known (realloc b w)) = realloc-behaves a b w
+  wanted-behaves (known (size b)) = size-behaves a b
+  wanted-behaves (known (view b)) = view-behaves b
+  wanted-behaves (known report) = report-behaves a
+  wanted-behaves (known (write text)) = write-behaves a text
+  wanted-behaves (known (read text)) = read-behaves a text
+  wanted-behaves unknown = unknown-behaves
+
+  -- what a refused request leaves: the words as they were, and 0 in the record for block and granted words
+  pub refused-request : (w : Wanted)
+      → let outcome = madeSingly ours w a in
+      outcome .answer .code ≢ 0 → (outcome .words ≡ a) × (served (outcome .answer) .block ≡ 0) × (served (outcome .answer) .granted ≡ 0)
+  refused-request w n =
+      let g = wanted-behaves w in
+      (g .unchanged n, ap blockIn (g .zeros n) ∙ no-block (fieldsOf w), ap grantedIn (g .zeros n) ∙ none-granted (fieldsOf w))
+    where
+      no-block : (fields : ℕ) → blockIn (replicate fields 0) ≡ 0
+      no-block zero = refl
+      no-block (suc zero) = refl
+      no-block (suc (suc fields)) = refl
+
+      none-granted : (fields : ℕ) → grantedIn (replicate fields 0) ≡ 0
+      none-granted zero = refl
+      none-granted (suc zero) = refl
+      none-granted (suc (suc fields)) = refl
+
+-- a batch keeps the number of words, and a sound arena sound
+pub batch-length : (a : List ℕ) (rs : List Request) → length (batchOn a rs .words) ≡ length a
+unfolding batchBy
+batch-length a [] = refl
+batch-length a (r ∷ rs) = batch-length (madeSingly ours (wantedIn r) a .words) rs ∙ wanted-behaves a (wantedIn r) .same-length
+
+pub batch-sound : (a : List ℕ) (rs : List Request) → sound a ≡ true → sound (batchOn a rs .words) ≡ true
+unfolding batchBy
+batch-sound a [] s = s
+batch-sound a (r ∷ rs) s = batch-sound (madeSingly ours (wantedIn r) a .words) rs (wanted-behaves a (wantedIn r) .still-sound s)
