@@ -17,3 +17,4 @@ pub mod Lasting
 pub mod Demands
 pub mod Examples
 pub mod Useless
+pub mod BatchRuns

@@ -14,11 +14,13 @@ use Rattle.layout.specs.Walk.{sound}
 use Rattle.rules.specs.Answers.{Answer, success}
 use Rattle.rules.specs.Causes.{LawfulRequest}
 use Rattle.rules.specs.Pictures.{pictureLength, Says}
+use Rattle.rules.specs.declared.Request.{Request}
 use Rattle.rules.specs.Libraries.{Call, start, alloc, free, resize, relocate, realloc, size, view, report, write, read, Library}
 use Rattle.ledger.specs.Events.{Event}
 use Rattle.ledger.specs.Ledger.{Entry, Ledger, told, Done, Listed, Unlisted, begins, ends, heldWords}
 use Rattle.ledger.specs.Gaps.{gapFrom, gaps, EachShorter, RoomShorter}
 use Rattle.ledger.specs.Runs.{State, Allowed, after, Run}
+use Rattle.ledger.specs.BatchRuns.{afterBatch, afterSingly}
 use Rattle.ledger.specs.Holders.{wordAfter, numberAfter, Ended, StoredLast}
 
 -- `s` words, header counted, have the need of a request for `w`, and fewer over than would be split off
@@ -46,6 +48,14 @@ module _ (library : Library) where
   abbrev pub Receives : Type 0
   Receives =
       (a text : List ℕ) → Done (library (read text) a .answer) ↔ ((ws : List ℕ) × Says text ws × (length ws ≡ length a) × (sound ws ≡ true))
+
+  -- item 5: a batch "must equal the same requests made singly, in order, also for demand 3's ledger"
+  abbrev pub SameAsSingly : Type 0
+  SameAsSingly = (records : List Request) (s : State) → afterBatch library records s ≡ afterSingly library records s
+
+  -- so a run may hold batches, and what is shown of every run is so after each
+  abbrev pub RunsHoldBatches : Type 0
+  RunsHoldBatches = (n : ℕ) (s : State) → Run library n s → (records : List Request) → Run library n (afterBatch library records s)
 
   -- an arena keeps its length
   abbrev pub Lengths : Type 0

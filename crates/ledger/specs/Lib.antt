@@ -2,5 +2,6 @@ pub mod Events
 pub mod Ledger
 pub mod Gaps
 pub mod Runs
+pub mod BatchRuns
 pub mod Holders
 pub mod Demands
