@@ -1,1 +1,2 @@
 pub mod InRecords
+pub mod SixWords

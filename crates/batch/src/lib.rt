@@ -1,5 +1,7 @@
 // Requests of a batch: each is a call by its kind, and its answer goes into the request's own record. The loop over a
 // lent list of records is `zv_batch`, for C; nothing that is proved can call a function that is lent records.
+pub mod words;
+
 use answers::Numbers;
 use layout::Reason;
 pub use rules::Request;

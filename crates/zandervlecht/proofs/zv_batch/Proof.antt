@@ -64,7 +64,7 @@ use Rattle.batch.proofs.fill as fill
 use Rattle.batch.proofs.fill.Symbol as fill-symbol
 use Rattle.batch.proofs.fill.Symbol.{name as #batch·fill}
 use Rattle.batch.proofs.fill.Met as fill-met
-use Rattle.zandervlecht.proofs.Filling.{behind, Going, begins, answered, turned, all-filled}
+use Rattle.batch.proofs.BatchTurns.{behind, Going, begins, answered, turned, all-filled}
 use Rattle.zandervlecht.proofs.zv_batch.Key.{name as #zv-batch}
 use Rattle.zandervlecht.proofs.zv_batch as zv-batch
 use Rattle.zandervlecht.proofs.zv_batch.Statement as stated

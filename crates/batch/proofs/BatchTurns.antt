@@ -1,4 +1,4 @@
--- How the loop of a batch goes: the records before a place are filled, and those behind it are as they came.
+-- How a loop over the records of a batch goes: those before a place are filled, and those behind it are as they came.
 use Prim.Native.Nat.{ℕ, _+_, _<_}
 use mathlib.Core.Path.{_≡_, refl, sym, ap, _∙_}
 use mathlib.Core.List.{List, [], _∷_, _++_, append-assoc}
@@ -11,7 +11,7 @@ use Rattle.rules.proofs.Batches.{batch-none, batch-more}
 
 -- what a batch comes to behind records that are filled already
 abbrev pub behind : List Request → Batch → Batch
-behind filled-now batch = record { records = filled-now ++ batch .records; words = batch .words }
+behind before batch = record { records = before ++ batch .records; words = batch .words }
 
 -- where the loop stands in the batch `xs` on the words `ys`: with these words, the rest comes to what the whole comes to
 pub record Going (ys : List ℕ) (xs : List Request) : Type 0 where
