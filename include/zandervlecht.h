@@ -7,19 +7,21 @@
  *
  * What a call does. It is done exactly as the rules say, and returns ZV_DONE; or it returns the reason why it says no,
  * and then not one word of the arena and not one byte of the text has changed, and every field of the answer is 0. A
- * call takes any number, an arena of any length that holds any words, damaged ones included, and a text of any length
- * that holds any bytes.
+ * call takes any number, an arena of any length that holds any words, damaged ones included, a text of any length that
+ * holds any bytes, and a list of any length that holds any records. zv_batch is as many calls as its list has records,
+ * and returns nothing: each record has the code and the fields of its own answer.
  *
  * What the caller must see to, since a C function cannot:
  *   - arena points to that many words, aligned as uint32_t is, and is no null pointer, even where words is 0;
  *   - text and spelled point to that many bytes, and are no null pointers, even where bytes is 0;
+ *   - requests points to that many records, aligned as uint32_t is, and is no null pointer, even where count is 0;
  *   - answer points to as many words as the brackets say;
- *   - arena, text and answer share no memory;
+ *   - arena, text, requests and answer share no memory;
  *   - nobody else reads or writes what they point to during the call.
  *
- * Who owns what. Arena, text and answer are the caller's. The library keeps nothing from one call to the next and has
- * no memory of its own: all that it knows is in the arena. So there can be several arenas, and one that was copied as a
- * whole, or read from its picture, is as good as the first.
+ * Who owns what. Arena, text, requests and answer are the caller's. The library keeps nothing from one call to the next
+ * and has no memory of its own: all that it knows is in the arena. So there can be several arenas, and one that was
+ * copied as a whole, or read from its picture, is as good as the first.
  *
  * A block is named by a number: the word of the arena at which it begins. Its words are arena + block up to, but not
  * with, arena + block + granted, where granted is what zv_size answers; they belong to whoever asked for the block,
@@ -44,7 +46,10 @@ extern "C" {
 #define ZV_LEAST_WORDS 6
 #define ZV_GREATEST_WORDS 16384
 
-/* What a call returns. Where more than one reason applies, ZV_FRAME is given or, without it, the lowest number. */
+/*
+ * What a call returns, or has in its record of a batch. Where more than one reason applies, ZV_FRAME is given or,
+ * without it, the lowest number.
+ */
 enum zv_code {
     /* The call was done. */
     ZV_DONE = 0,
@@ -60,7 +65,7 @@ enum zv_code {
     ZV_TOO_LARGE = 5,
     /* No free chunk is long enough for the request. */
     ZV_NO_ROOM = 6,
-    /* A line cannot be read: zv_read says so of a picture, the line program of a request, and no other call. */
+    /* A line cannot be read, or a kind is unknown: zv_read, zv_batch and the line program say so, and no other call. */
     ZV_FRAME = 7,
     /* The block cannot stay where it is: zv_resize says so, and no other call. */
     ZV_WOULD_MOVE = 8,
@@ -86,6 +91,38 @@ enum zv_reported {
     ZV_LIVE_BLOCKS = 2,
     /* How many free chunks there are. */
     ZV_FREE_CHUNKS = 3
+};
+
+/* The kinds of request in a batch: the call that each is, the numbers that it takes, and those that it answers. */
+enum zv_kind {
+    /* It is zv_alloc with n, and answers block and granted. */
+    ZV_ALLOC = 1,
+    /* It is zv_free with b, and answers the code alone. */
+    ZV_FREE = 2,
+    /* It is zv_realloc with b and n, and answers block and granted. */
+    ZV_REALLOC = 3,
+    /* It is zv_resize with b and n, and answers block and granted. */
+    ZV_RESIZE = 4,
+    /* It is zv_relocate with b and n, and answers block and granted. */
+    ZV_RELOCATE = 5,
+    /* It is zv_size with b, and answers granted. */
+    ZV_SIZE = 6
+};
+
+/* One request of a batch: the caller fills in what is asked, kind, b and n, and zv_batch fills in what is answered. */
+struct zv_request {
+    /* One of enum zv_kind; any other number is refused with ZV_FRAME before all else, whatever the arena is. */
+    uint32_t kind;
+    /* The block's number; a kind that does not take it ignores it. */
+    uint32_t b;
+    /* The number of words; a kind that does not take it ignores it. */
+    uint32_t n;
+    /* The code, as the call would return it. */
+    uint32_t code;
+    /* The block's number after the call, 0 where the kind does not answer it or the request is refused. */
+    uint32_t block;
+    /* The granted words, 0 where the kind does not answer them or the request is refused. */
+    uint32_t granted;
 };
 
 /* Makes the whole arena one free chunk, whatever words it held. Returns ZV_DONE or ZV_LENGTH. */
@@ -126,6 +163,13 @@ uint32_t zv_read(const uint8_t *text, size_t bytes, uint32_t *arena, size_t word
  * ZV_LENGTH, the last also where the bytes make no whole number of words.
  */
 uint32_t zv_check(const uint8_t *spelled, size_t bytes);
+
+/*
+ * Makes the calls of a list of requests, in order, each on the arena as the ones before it left it, and fills in the
+ * answer of each in its own record, whatever stood there; what is asked stays. All is as if the calls were made singly:
+ * a request that is refused changes nothing and stops nothing, and an empty list changes nothing.
+ */
+void zv_batch(uint32_t *arena, size_t words, struct zv_request *requests, size_t count);
 
 #ifdef __cplusplus
 }

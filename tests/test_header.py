@@ -11,7 +11,13 @@ LANGUAGES = ["c99", "c11", "c++11"]
 ALONE = """#include "zandervlecht.h"
 #include "zandervlecht.h"
 static uint32_t arena[ZV_LEAST_WORDS];
-int main(void) { return (int)zv_start(arena, ZV_LEAST_WORDS); }
+static struct zv_request request = {ZV_ALLOC, 0, 1, ZV_FRAME, 0, 0};
+int main(void)
+{
+    zv_start(arena, ZV_LEAST_WORDS);
+    zv_batch(arena, ZV_LEAST_WORDS, &request, 1);
+    return (int)request.code;
+}
 """
 
 # How an archive with an index of its symbols begins; the index is its first member, and that has a head of 60 bytes.
@@ -21,7 +27,7 @@ INDEX_BEGINS = 68
 
 
 def compile_alone(root, language):
-    """Builds the program of a language, and runs it: it ends with status 0 where the arena could be started."""
+    """Builds the program of a language, and runs it: it ends with status 0 where a request on its arena was done."""
     command = c_programs.build_text("alone_" + language, language, ALONE, root)
     run_lines(command, b"", expected=b"")
 

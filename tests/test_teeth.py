@@ -6,8 +6,8 @@ The other drivers are tried by test_teeth_rows.py, test_teeth_arenas.py, test_te
 import glob
 import os
 
-from support import cases, driver, lines, model, picture_cases, pictures, programs, spoiling, teeth
-from support import spoiled_c, spoiled_desk, spoiled_drawing, spoiled_headers, spoiled_pages
+from support import batches, cases, driver, lines, model, picture_cases, pictures, programs, spoiling, teeth
+from support import spoiled_batch, spoiled_c, spoiled_desk, spoiled_drawing, spoiled_headers, spoiled_pages
 from support.comparing import compare_answers, compare_replies, compare_together
 
 LINES = b"010020\n020005\n020001\n05\n03001A\n0Z\n"
@@ -16,6 +16,8 @@ CASES = [cases.Case(cases.ALLOC, 0, 2, SOUND), cases.Case(cases.VIEW, 4, 0, SOUN
 PICTURE = [picture_cases.Case(picture_cases.WRITE, bytes(range(125)), SOUND),
            picture_cases.Case(picture_cases.READ, pictures.picture_of(SOUND), [5] * len(SOUND)),
            picture_cases.Case(picture_cases.CHECK, cases.packed(SOUND), [])]
+BATCHES = [batches.Case([batches.Record(batches.ALLOC, 5, 2, 6, 7, 8), batches.Record(0, 5, 2, 6, 7, 8)], [9], SOUND),
+           batches.Case([], [], SOUND[:5]), batches.Case([batches.Record(batches.SIZE, 4, 5, 6, 7, 8)], [], SOUND)]
 BETWEEN_LIVE = [16, 2, 6, 0, 71, 72, 73, 74, 4, 4294967295, 75, 76, 4, 4294967295, 77, 78]
 
 
@@ -93,7 +95,7 @@ def check_comparers():
     replies = lines.output_for(LINES)
     tried = [(what, complains(compare_replies, LINES, replies, wrong)) for what, wrong in wrong_replies(replies)]
     tried += [("the true replies", not complains(compare_replies, LINES, replies, replies))]
-    tried += [*judged_answers(cases, CASES), *judged_answers(picture_cases, PICTURE)]
+    tried += [*judged_answers(cases, CASES), *judged_answers(picture_cases, PICTURE), *judged_answers(batches, BATCHES)]
     tried += [(what, complains(compare_together, three, b"".join(wrong))) for what, three, wrong in wrong_together()]
     for three, true in (together(4, 3, SOUND), together(10, 3, BETWEEN_LIVE)):
         tried += [("the true replies together", not complains(compare_together, three, b"".join(true)))]
@@ -108,7 +110,8 @@ def check_all_tried():
     """Each driver is tried by a row of faults, or on spoiled copies, but for those that try the others."""
     named = {os.path.basename(path)[:-len(".py")] for path in glob.glob(os.path.join(programs.TESTS, "test_*.py"))}
     tried = {trial.driver for trial in teeth.ROWS + teeth.LINES + teeth.ARENAS + teeth.PICTURES}
-    tried |= {spoiled.DRIVER for spoiled in (spoiled_pages, spoiled_drawing, spoiled_headers, spoiled_c, spoiled_desk)}
+    tried |= {spoiled.DRIVER for spoiled in (spoiled_pages, spoiled_drawing, spoiled_headers, spoiled_c, spoiled_batch,
+                                             spoiled_desk)}
     untried = sorted(name for name in named - tried if not name.startswith("test_teeth"))
     if untried:
         raise driver.Difference(f"nothing tries whether these complain: {untried}")

@@ -1,10 +1,10 @@
-"""Shows that the drivers of the header, the calls for C and the desk tool complain: each has to see spoiled copies."""
+"""Shows that the drivers of the header, the calls for C, batches and the desk tool complain, of spoiled copies."""
 
-from support import c_programs, driver, spoiled_c, spoiled_desk, spoiled_headers
+from support import c_programs, driver, spoiled_batch, spoiled_c, spoiled_desk, spoiled_headers
 from support.spoiling import check_driver
 
-# So many calls, or files, are enough to see each fault of a program.
-FEW = {spoiled_c: "300", spoiled_desk: "4"}
+# So many calls, batches or files are enough to see each fault of a program.
+FEW = {spoiled_c: "300", spoiled_batch: "2", spoiled_desk: "4"}
 
 # The folders that these drivers do not look at.
 UNSEEN = ["proofs", "must-fail"]

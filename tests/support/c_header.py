@@ -1,6 +1,6 @@
 """The header of the calls for C, taken apart, and what it has to declare by the sources of the crates.
 
-A declaration is one line of text here: a constant, an entry of an enum, or a function.
+A declaration is one line of text here: a constant, an entry of an enum, a field of a struct, or a function.
 """
 
 import os
@@ -15,9 +15,10 @@ EXPORT = re.compile(r'#\[no_mangle\]\npub extern "C" fn (\w+)\((.*?)\)(?: -> (\w
 # A lent slice or, with a number, a lent array.
 LENT = re.compile(r"&(mut )?\[(\w+)(?:; (\d+))?\]")
 
-# The types of the code in C, and what the header calls a lent slice and how many words or bytes it has.
-C_TYPES = {"u32": "uint32_t", "u8": "uint8_t"}
-SLICE_NAMES = {"a": ("arena", "words"), "text": ("text", "bytes"), "spelled": ("spelled", "bytes")}
+# The types of the code in C, and what the header calls a lent slice and how many words, bytes or records it has.
+C_TYPES = {"u32": "uint32_t", "u8": "uint8_t", "Request": "struct zv_request"}
+SLICE_NAMES = {"a": ("arena", "words"), "text": ("text", "bytes"), "spelled": ("spelled", "bytes"),
+               "requests": ("requests", "count")}
 
 # The constants of the header and those of the code.
 CONSTANTS = {"ZV_LEAST_WORDS": "LEAST_LENGTH", "ZV_GREATEST_WORDS": "GREATEST_LENGTH"}
@@ -25,12 +26,25 @@ CONSTANTS = {"ZV_LEAST_WORDS": "LEAST_LENGTH", "ZV_GREATEST_WORDS": "GREATEST_LE
 # An enum of the code whose first case has named fields: its name, and these.
 ANSWER = re.compile(r"pub enum (\w+) \{\s*\w+ \{(.*?)\}", re.DOTALL)
 
+# The fields of the record of the code, which has to lie in memory as C has it, and one of them.
+RECORD = re.compile(r"#\[repr\(C\)\]\npub struct Request \{(.*?)\}", re.DOTALL)
+FIELD = re.compile(r"(\w+): (.+),\n")
+
+# What makes the call of a kind, and its lines: for each kind the number, the answer, the call and what that takes.
+KINDS = re.compile(r"\nfn call\(.*?match kind \{(.*?)\n    \}", re.DOTALL)
+KIND = re.compile(r"(\d+) => answers::(\w+)_numbers\(arena::(\w+)\(a(?:, (\w+(?:, \w+)*))?\)\),")
+UNKNOWN_KIND = "_ => answers::refusal_numbers(0, Reason::Frame),"
+
+# The fields that a record has of each answer.
+ANSWERED = {"granted": ["block", "granted"], "sized": ["granted"], "finish": []}
+
 COMMENT = re.compile(r"/\*(.*?)\*/", re.DOTALL)
 LINKAGE = re.compile(r'extern "C" \{(.*)\}', re.DOTALL)
 ENUM = re.compile(r"enum (\w+) \{ (.*?),? \}")
+STRUCT = re.compile(r"\bstruct (\w+) \{(.*?)\};", re.DOTALL)
 
 # A comment and the name before which it stands, and the star that begins a line of a long one.
-COMMENTED = re.compile(r"/\*((?:(?!\*/).)*)\*/\s*(?:enum |uint32_t )?(\w+)", re.DOTALL)
+COMMENTED = re.compile(r"/\*((?:(?!\*/).)*)\*/\s*(?:enum |struct |uint32_t |void )?(\w+)", re.DOTALL)
 STAR = re.compile(r"^ \*", re.MULTILINE)
 
 ONE_SENTENCE = re.compile(r"[A-Z][^.]*\.")
@@ -38,6 +52,7 @@ SENTENCES = re.compile(r"[A-Z].*\.")
 
 # What a comment can name: something that is declared, a path, a number. Of numbers only these are nobody's constant.
 NAME = re.compile(r"\b(?:zv|ZV)_\w+")
+ASKED_OR_ANSWERED = re.compile(r"\b(?:b|n|block|granted)\b")
 PATH = re.compile(r"\b(?:crates|docs|include)/[\w./]*\w")
 NUMBER = re.compile(r"\d[\d,]*")
 PLAIN_NUMBERS = {"0", "32"}
@@ -116,14 +131,50 @@ def fields(answers):
             yield f"enum zv_{name.lower()}: ZV_{field.upper()} = {at}"
 
 
+def kind_lines(root):
+    """The lines by which the call of a kind is made, each with one space between its words."""
+    lines = KINDS.search(source_of(root, "batch"))
+    return [one_line(line) for line in lines.group(1).split("\n") if line.strip()] if lines else []
+
+
+def kinds(root):
+    """The kinds of request: of each its number, what it answers, its call, and what that takes besides the arena."""
+    found = filter(None, map(KIND.fullmatch, kind_lines(root)))
+    return [(number, ANSWERED.get(answer, [answer]), call, taken.split(", ") if taken else [])
+            for number, answer, call, taken in (kind.groups() for kind in found)]
+
+
+def kind_entries(root):
+    """The kinds of request, each called after its call."""
+    for number, answered, call, taken in kinds(root):
+        yield f"enum zv_kind: ZV_{call.upper()} = {number}"
+
+
+def record_fields(rules):
+    """The fields of a request, in the order in which they lie in memory."""
+    record = RECORD.search(rules)
+    if record is None:
+        yield "struct zv_request: of no fields, since none of the code lie in memory as C has them"
+        return
+    for name, kind in FIELD.findall(record.group(1)):
+        yield f"struct zv_request: {C_TYPES.get(kind, kind)} {name}"
+
+
 def due(root):
     """All that the header has to declare, in this order."""
     layout = source_of(root, "layout")
-    functions = [prototype(*export) for export in exports(root)]
-    return [*constants(layout), *codes(layout), *fields(source_of(root, "answers")), *functions]
+    answers = [*codes(layout), *fields(source_of(root, "answers"))]
+    requests = [*kind_entries(root), *record_fields(source_of(root, "rules"))]
+    return [*constants(layout), *answers, *requests, *(prototype(*export) for export in exports(root))]
 
 
 # What the header has.
+
+
+def fields_apart(struct):
+    """The fields of a struct as statements of their own."""
+    name, inside = struct.groups()
+    return "".join(f"struct {name}: {field};" for field in map(one_line, inside.split(";")) if field)
 
 
 def declared(text):
@@ -132,7 +183,7 @@ def declared(text):
     defined = [one_line(line) for line in lines if line.startswith("#define")]
     code = LINKAGE.sub(r"\1", "\n".join(line for line in lines if not line.startswith("#")))
     found = [line for line in defined if line != GUARD]
-    for statement in map(one_line, code.split(";")):
+    for statement in map(one_line, STRUCT.sub(fields_apart, code).split(";")):
         entries = ENUM.fullmatch(statement)
         if entries:
             found += [f"enum {entries.group(1)}: {entry}" for entry in entries.group(2).split(", ")]
@@ -142,8 +193,15 @@ def declared(text):
 
 
 def name_of(declaration):
-    """The name that a declaration makes known."""
+    """The name that a declaration makes known; that of a field comes last."""
+    if declaration.startswith("struct "):
+        return declaration.split(" ")[-1]
     return NAME.search(declaration.split(": ")[-1]).group()
+
+
+def types_in(found, word):
+    """The names of all that is declared entry by entry, or field by field, behind this word."""
+    return {line.split(" ")[1].rstrip(":") for line in found if line.startswith(word + " ")}
 
 
 def said_before(text):
@@ -162,6 +220,13 @@ def wrong_marks(root):
             yield f"{mark} is in the code {source.count(mark)} times, and {count} functions were read there"
 
 
+def wrong_kinds(root):
+    """Lines by which the call of a kind is made in a way that is not read here."""
+    for line in kind_lines(root) or ["none at all"]:
+        if not KIND.fullmatch(line) and line != UNKNOWN_KIND:
+            yield f"of the lines that make the call of a kind this is not read: {line}"
+
+
 def wrong_declarations(wanted, found):
     """What the header lacks, what it has besides, and whether all stands once and in the order of the sources."""
     yield from (f"the header lacks: {line}" for line in wanted if line not in found)
@@ -171,9 +236,9 @@ def wrong_declarations(wanted, found):
 
 
 def wrong_comments(said, found):
-    """Entries of an enum without a comment of one sentence, and functions without a comment."""
+    """Entries of an enum and fields of a struct without a comment of one sentence, and functions without a comment."""
     for line in found:
-        form = ONE_SENTENCE if line.startswith("enum ") else SENTENCES
+        form = ONE_SENTENCE if line.startswith(("enum ", "struct ")) else SENTENCES
         name = name_of(line)
         if not line.startswith("#define") and not form.fullmatch(said.get(name, "")):
             yield f"before {name} stands no comment of one sentence"
@@ -181,17 +246,26 @@ def wrong_comments(said, found):
 
 def wrong_lists(said, found):
     """Enums of fields whose comment does not name the functions that have so many fields, those and no others."""
-    for enum in sorted({line.split()[1].rstrip(":") for line in found if line.startswith("enum ")} - {"zv_code"}):
+    for enum in sorted(types_in(found, "enum") - {"zv_code", "zv_kind"}):
         count = sum(line.startswith(f"enum {enum}: ") for line in found)
         answering = {name_of(line) for line in found if f"answer[{count}]" in line}
         if set(NAME.findall(said.get(enum, ""))) != answering:
             yield f"the comment before {enum} does not name {', '.join(sorted(answering))} alone"
 
 
+def wrong_kind_comments(root, said):
+    """Kinds whose comment does not name the call, what that takes and what it answers, in this order and no others."""
+    for number, answered, call, taken in kinds(root):
+        comment = said.get(f"ZV_{call.upper()}", "")
+        due_names = [f"zv_{call}", *taken, *answered]
+        if NAME.findall(comment) + ASKED_OR_ANSWERED.findall(comment) != due_names:
+            yield f"the comment before ZV_{call.upper()} does not name {', '.join(due_names)} alone"
+
+
 def wrong_words(root, text, found):
     """Names and paths in comments that are not there, and numbers, which the header is to call by name."""
     comments = " ".join(COMMENT.findall(text))
-    known = {name_of(line) for line in found}
+    known = {name_of(line) for line in found} | types_in(found, "enum") | types_in(found, "struct")
     for name in NAME.findall(comments):
         if name not in known:
             yield f"a comment names {name}, which is not declared"
@@ -206,8 +280,9 @@ def look(root):
     """All that is wrong with the header of a repository, and all that it declares."""
     text = text_of(root, HEADER)
     found = declared(text)
-    faults = [*wrong_marks(root), *wrong_declarations(due(root), found)]
+    faults = [*wrong_marks(root), *wrong_kinds(root), *wrong_declarations(due(root), found)]
     if not faults:
         said = said_before(text)
-        faults = [*wrong_comments(said, found), *wrong_lists(said, found), *wrong_words(root, text, found)]
+        faults = [*wrong_comments(said, found), *wrong_lists(said, found), *wrong_kind_comments(root, said),
+                  *wrong_words(root, text, found)]
     return faults, found

@@ -1,4 +1,4 @@
-"""The rules for one arena, document 01's with Items 1 and 3 of document 02: answers, and every word left.
+"""The rules for one arena, document 01's with Items 1, 3 and 5 of document 02: answers, and every word left.
 
 The model shares nothing with the library. It reads an arena as the stretches of words that are live; what lies
 between them is free. A rule looks at these stretches and says what is answered and which of them change; around each
@@ -310,6 +310,33 @@ def view(lent, block):
     """The words of the block; none where its size would be refused."""
     code, (granted,) = size(lent, block)
     return lent.words[block:block + granted] if code == DONE else []
+
+
+# The kinds of request in a batch: the call, which of the numbers b and n it takes, and what it answers.
+KINDS = {
+    1: (alloc, ["n"], ["block", "granted"]),
+    2: (free, ["b"], []),
+    3: (realloc, ["b", "n"], ["block", "granted"]),
+    4: (resize, ["b", "n"], ["block", "granted"]),
+    5: (relocate, ["b", "n"], ["block", "granted"]),
+    6: (size, ["b"], ["granted"]),
+}
+
+
+def served(lent, kind, b, n):
+    """Makes one request of a batch; gives code, block and granted, 0 for what is not answered."""
+    if kind not in KINDS:
+        return FRAME, 0, 0
+    call, taken, answered = KINDS[kind]
+    numbers = {"b": b, "n": n}
+    code, fields = call(lent, *(numbers[name] for name in taken))
+    answer = dict(zip(answered, fields))
+    return code, answer.get("block", 0), answer.get("granted", 0)
+
+
+def batch(lent, requests):
+    """Makes requests in order, each a kind, b and n; gives code, block and granted of each."""
+    return [served(lent, *request) for request in requests]
 
 
 def on_words(call, words, *numbers):

@@ -9,6 +9,8 @@ DRIVER = "test_header"
 CALLS = "crates/zandervlecht/src/lib.rt"
 LAYOUT = "crates/layout/src/lib.rt"
 ANSWERS = "crates/answers/src/lib.rt"
+RULES = "crates/rules/src/lib.rt"
+BATCH = "crates/batch/src/lib.rt"
 
 
 def header(old, new):
@@ -58,12 +60,29 @@ SPOILED = [
     (header("zv_read(const ", "zv_read("), "the header lacks: uint32_t zv_read("),
     (header("*spelled, size_t bytes", "*spelled, size_t words"), "the header lacks: uint32_t zv_check("),
     (swapped("zv_resize(", "zv_realloc("), "in another order"),
+    (swapped("ZV_REALLOC =", "ZV_RESIZE ="), "the header lacks: enum zv_kind: ZV_REALLOC = 3"),
+    (header("ZV_RELOCATE = 5", "ZV_RELOCATE = 7"), "the header lacks: enum zv_kind: ZV_RELOCATE = 5"),
+    (header("    ZV_FREE = 2,\n", ""), "the header lacks: enum zv_kind: ZV_FREE = 2"),
+    (header("ZV_SIZE = 6", "ZV_SIZE = 6, ZV_REPORT = 7"), "the sources have not: enum zv_kind: ZV_REPORT = 7"),
+    (swapped("uint32_t b;", "uint32_t n;"), "in another order"),
+    (swapped("uint32_t block;", "uint32_t granted;"), "in another order"),
+    (header("    uint32_t granted;\n", ""), "the header lacks: struct zv_request: uint32_t granted"),
+    (header("uint32_t code;", "uint32_t code, more;"), "the sources have not: struct zv_request: uint32_t code, more"),
+    (header("uint32_t kind;", "enum zv_kind kind;"), "the header lacks: struct zv_request: uint32_t kind"),
+    (header("*requests, size_t count", "*requests, uint32_t count"), "the header lacks: void zv_batch("),
+    (header("void zv_batch", "uint32_t zv_batch"), "the header lacks: void zv_batch("),
+    (header("struct zv_request *requests", "const struct zv_request *requests"), "the header lacks: void zv_batch("),
     (header("The call was done.", "The call was done. Go on."), "before ZV_DONE stands no comment"),
     (header("    /* The request is for no words. */\n", ""), "before ZV_ZERO stands no comment"),
     (header("/* Frees block b. */\n", ""), "before zv_free stands no comment"),
     (header("ZV_LENGTH, the last also where the bytes make no whole number of words.\n", "ZV_LENGTH\n"),
      "before zv_check stands no comment"),
+    (header("    /* The code, as the call would return it. */\n", ""), "before code stands no comment"),
     (header("zv_relocate and zv_realloc. */", "zv_relocate. */"), "the comment before zv_granted does not name"),
+    (header("It is zv_resize with", "It is zv_realloc with"), "before ZV_RESIZE does not name zv_resize, b, n, block"),
+    (header("zv_free with b", "zv_free with n"), "the comment before ZV_FREE does not name zv_free, b alone"),
+    (header("answers granted.", "answers block."), "before ZV_SIZE does not name zv_size, b, granted alone"),
+    (header("enum zv_kind;", "enum zv_kinds;"), "a comment names zv_kinds"),
     (header("ZV_DONE or ZV_LENGTH", "ZV_DONE or ZV_LONG"), "a comment names ZV_LONG"),
     (header("docs/BOARD.md", "docs/BOARDS.md"), "a comment names docs/BOARDS.md"),
     (header("below ZV_LEAST_WORDS", "below 6"), "a comment has the number 6"),
@@ -74,7 +93,18 @@ SPOILED = [
     (replaced(CALLS, "fn zv_free", "fn zv_release"), "the header lacks: uint32_t zv_release("),
     (replaced(CALLS, "zv_free(a: &mut [u32]", "zv_free(a: &[u32]"), "zv_free(const uint32_t *arena"),
     (replaced(CALLS, "zv_check(spelled: &[u8]", "zv_check(spelled: &mut [u8]"), "zv_check(uint8_t *spelled"),
-    (replaced(CALLS, "#[no_mangle]\n", "#[no_mangle]\n#[inline]\n"), "times, and 10 functions were read there"),
+    (replaced(CALLS, "requests: &mut [Request]", "requests: &[Request]"), "words, const struct zv_request *requests"),
+    (replaced(CALLS, "#[no_mangle]\n", "#[no_mangle]\n#[inline]\n"), "times, and 11 functions were read there"),
+    (replaced(RULES, "#[repr(C)]\n", ""), "the header lacks: struct zv_request: of no fields"),
+    (replaced(RULES, "    pub b: u32,\n    pub n: u32,\n", "    pub n: u32,\n    pub b: u32,\n"), "in another order"),
+    (replaced(RULES, "    pub n: u32,\n", "    pub n: u64,\n"), "the header lacks: struct zv_request: u64 n"),
+    (replaced(RULES, "    pub n: u32,\n", "    pub n: [u32; 2],\n"), "the header lacks: struct zv_request: [u32; 2] n"),
+    (replaced(RULES, "    pub granted: u32,\n", ""), "the sources have not: struct zv_request: uint32_t granted"),
+    (replaced(BATCH, "        4 => ", "        9 => "), "the header lacks: enum zv_kind: ZV_RESIZE = 9"),
+    (replaced(BATCH, "arena::alloc(a, n)", "arena::alloc(a, b)"), "before ZV_ALLOC does not name zv_alloc, b, block"),
+    (replaced(BATCH, "        _ => ", "        7 => grow(a, b),\n        _ => "), "this is not read: 7 => grow(a, b),"),
+    (replaced(BATCH, "Reason::Frame)", "Reason::Zero)"), "this is not read: _ => answers::refusal_numbers("),
+    (replaced(BATCH, "fn call(", "fn make_call("), "this is not read: none at all"),
 ]
 
 # The same, of what a compiler for one of the languages, and the library that it links, have to show.
