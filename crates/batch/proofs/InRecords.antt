@@ -13,31 +13,31 @@ use Rattle.answers.specs.declared.Numbers.{Numbers}
 use Rattle.batch.specs.InRecords.{servedIn}
 
 -- the answer of a record, with its fields
-abbrev pub told : ℕ → ℕ → ℕ → Served
-told code block granted = record { code = code; block = block; granted = granted }
+abbrev pub servedWith : ℕ → ℕ → ℕ → Served
+servedWith code block granted = record { code = code; block = block; granted = granted }
 
 -- ---- by the number of fields
 
-pub no-field : (x : Numbers) → x .count ≡ 0 → told (x .code) 0 0 ≡ servedIn x
+pub no-field : (x : Numbers) → x .count ≡ 0 → servedWith (x .code) 0 0 ≡ servedIn x
 no-field x e = rw e refl
 
-one-field : (code : ℕ) (fields : List ℕ) → told code 0 (getD fields 0 0) ≡ told code (blockIn (take 1 fields)) (grantedIn (take 1 fields))
+one-field : (code : ℕ) (fields : List ℕ) → servedWith code 0 (getD fields 0 0) ≡ servedWith code (blockIn (take 1 fields)) (grantedIn (take 1 fields))
 one-field code [] = refl
 one-field code (f ∷ fs) = refl
 
-pub single : (x : Numbers) → x .count ≡ 1 → told (x .code) 0 (getD (x .fields) 0 0) ≡ servedIn x
+pub single : (x : Numbers) → x .count ≡ 1 → servedWith (x .code) 0 (getD (x .fields) 0 0) ≡ servedIn x
 single x e = rw e (one-field (x .code) (x .fields))
 
 two-fields : (code more : ℕ) (fields : List ℕ) → length fields ≡ 4
-    → let part = take (suc (suc more)) fields in told code (getD fields 0 0) (getD fields 1 0) ≡ told code (blockIn part) (grantedIn part)
+    → let part = take (suc (suc more)) fields in servedWith code (getD fields 0 0) (getD fields 1 0) ≡ servedWith code (blockIn part) (grantedIn part)
 two-fields code more [] l = absurd (omega arith)
 two-fields code more (f ∷ []) l = absurd (omega arith)
 two-fields code more (f ∷ g ∷ fs) l = refl
 
-pub pair : (x : Numbers) → x .count ≢ 0 → x .count ≢ 1 → length (x .fields) ≡ 4 → told (x .code) (getD (x .fields) 0 0) (getD (x .fields) 1 0) ≡ servedIn x
+pub pair : (x : Numbers) → x .count ≢ 0 → x .count ≢ 1 → length (x .fields) ≡ 4 → servedWith (x .code) (getD (x .fields) 0 0) (getD (x .fields) 1 0) ≡ servedIn x
 pair x n0 n1 l = go (x .count) refl
   where
-    go : (count : ℕ) → x .count ≡ count → told (x .code) (getD (x .fields) 0 0) (getD (x .fields) 1 0) ≡ servedIn x
+    go : (count : ℕ) → x .count ≡ count → servedWith (x .code) (getD (x .fields) 0 0) (getD (x .fields) 1 0) ≡ servedIn x
     go zero e = absurd (n0 e)
     go (suc zero) e = absurd (n1 e)
     go (suc (suc more)) e = rw e (two-fields (x .code) more (x .fields) l)

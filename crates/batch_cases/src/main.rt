@@ -7,6 +7,7 @@ ghost use Rattle.batch_cases.specs.BatchRooms.{BatchRooms};
 
 // The most words of the records, and of an arena: those of a few hundred records, and more than is lawful.
 const MOST_RECORD_WORDS: usize = 4096;
+
 const MOST_WORDS: usize = layout::GREATEST_LENGTH + 16;
 
 // Reads the records and the arena of a case, runs the batch and writes the reply; false where that cannot be done.

@@ -10,12 +10,12 @@ use Rattle.rules.proofs.Batches.{batch-none, batch-more}
 use Rattle.ledger.specs.Events.{call}
 use Rattle.ledger.specs.Ledger.{Ledger, Effect, renews, grants, frees, regrants, spares, effect, noted, ifDone}
 use Rattle.ledger.specs.Runs.{State, Run, next}
-use Rattle.ledger.specs.BatchRuns.{answerIn, ledgerFor, ledgerFrom, afterOne, afterSingly}
+use Rattle.ledger.specs.BatchRuns.{recordAnswer, ledgerFor, ledgerFrom, afterOne, afterSingly}
 use Rattle.ledger.specs.Demands.{SameAsSingly, RunsHoldBatches}
 
 -- a record tells of its answer all that a ledger is kept from
 record-notes : (e : Effect) (r : Request) (answer : Answer) (ledger : Ledger)
-    → noted e (answerIn (filled r (served answer))) ledger ≡ noted e answer ledger
+    → noted e (recordAnswer (filled r (served answer))) ledger ≡ noted e answer ledger
 record-notes (renews blocks) r answer ledger = refl
 record-notes grants r answer ledger = refl
 record-notes (frees b) r answer ledger = refl
@@ -26,7 +26,7 @@ module _ (library : Library) where
   -- the state after one record is filled is that after its request is made singly
   one-filled : (r : Request) (w : Wanted) (s : State)
       → let outcome = madeSingly library w (s .words) in
-      record { words = outcome .words; ledger = ledgerFor w (answerIn (filled r (served (outcome .answer)))) (s .ledger) } ≡ afterOne library w s
+      record { words = outcome .words; ledger = ledgerFor w (recordAnswer (filled r (served (outcome .answer)))) (s .ledger) } ≡ afterOne library w s
   one-filled r (known c) s =
       let outcome = library c (s .words) in
       ap (λ (ledger : Ledger). record { words = outcome .words; ledger = ifDone (outcome .answer) ledger (s .ledger) })
@@ -42,7 +42,7 @@ module _ (library : Library) where
   same-as-singly (r ∷ rs) s =
       let outcome = madeSingly library (wantedIn r) (s .words) in
       ap (leaving s) (batch-more library (s .words) r rs)
-      ∙ same-as-singly rs (record { words = outcome .words; ledger = ledgerFor (wantedIn r) (answerIn (filled r (served (outcome .answer)))) (s .ledger) })
+      ∙ same-as-singly rs (record { words = outcome .words; ledger = ledgerFor (wantedIn r) (recordAnswer (filled r (served (outcome .answer)))) (s .ledger) })
       ∙ ap (afterSingly library rs) (one-filled r (wantedIn r) s)
 
   -- requests that are made singly are events of the run

@@ -11,8 +11,8 @@ use Rattle.ledger.specs.Runs.{State, after}
 -- ---- by the records
 
 -- the answer that a record has
-abbrev pub answerIn : Request → Answer
-answerIn r = record { code = r .code; values = r .block ∷ r .granted ∷ [] }
+abbrev pub recordAnswer : Request → Answer
+recordAnswer r = record { code = r .code; values = r .block ∷ r .granted ∷ [] }
 
 -- what a request that got this answer makes of the ledger; one of an unknown kind is no call
 abbrev pub ledgerFor : Wanted → Answer → Ledger → Ledger
@@ -22,7 +22,7 @@ ledgerFor unknown answer ledger = ledger
 -- the ledger after the records of a batch
 abbrev pub ledgerFrom : List Request → Ledger → Ledger
 ledgerFrom [] ledger = ledger
-ledgerFrom (r ∷ rs) ledger = ledgerFrom rs (ledgerFor (wantedIn r) (answerIn r) ledger)
+ledgerFrom (r ∷ rs) ledger = ledgerFrom rs (ledgerFor (wantedIn r) (recordAnswer r) ledger)
 
 module _ (library : Library) where
   -- the state after a batch: the words that it leaves, and the ledger that the records tell which it has filled

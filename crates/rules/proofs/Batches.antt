@@ -3,7 +3,7 @@ use Prim.Native.Nat.{ℕ, zero, suc}
 use mathlib.Core.Path.{_≡_, refl, sym, ap, _∙_}
 use mathlib.Core.Logic.{_≢_, _↔_}
 use mathlib.Core.Bool.{Bool, true, false, cond}
-use mathlib.Core.List.{List, [], _∷_, _++_}
+use mathlib.Core.List.{List, [], _∷_, _++_, map}
 use native.Mathlib.Omega.{arith}
 use lib.ListN.{length, replicate}
 use lib.Dec.{eqb}
@@ -16,8 +16,8 @@ use Rattle.layout.proofs.Reasons.{number-positive, number-injective}
 use Rattle.rules.specs.Answers.{Outcome, blockIn, grantedIn, noCall}
 use Rattle.rules.specs.Behaves.{Behaves}
 use Rattle.rules.specs.Libraries.{Call, start, alloc, free, resize, relocate, realloc, size, view, report, write, read, Library, ours}
-use Rattle.rules.specs.Batches.{Wanted, known, unknown, wanted, madeSingly, WantedRefused, fieldsOf, served, wantedIn, filled, Batch, batchBy, batchOn}
-use Rattle.rules.specs.Batches.{Serves, FillsOne}
+use Rattle.rules.specs.Batches.{Wanted, known, unknown, wanted, madeSingly, WantedRefused, wantedFields, served, wantedIn, filled, Batch, batchBy, batchOn}
+use Rattle.rules.specs.Batches.{Serves, FillsOne, Fills}
 use Rattle.rules.specs.declared.Request.{Request}
 use Rattle.rules.specs.declared.Served.{Served}
 use Rattle.rules.proofs.Calls.{start-behaves, alloc-behaves, free-behaves, resize-behaves, relocate-behaves, realloc-behaves, size-behaves}
@@ -35,6 +35,20 @@ unknown-kind kind b n n1 n2 n3 n4 n5 n6 =
 pub served-fills : {outcome : Outcome} {to : Served} {words : List ℕ} (request : Request) → Serves outcome to words
     → FillsOne outcome request (filled request to) words
 served-fills request g = record { answers = ap (filled request) (g .answers); leaves = g .leaves }
+
+-- what a record asks, by its three numbers
+abbrev pub asking : Request → ℕ × ℕ × ℕ
+asking r = (r .kind, r .b, r .n)
+
+-- ---- the promises leave no choice
+
+pub serves-once : {outcome : Outcome} {to to′ : Served} {words words′ : List ℕ} → Serves outcome to words → Serves outcome to′ words′
+    → (to ≡ to′) × (words ≡ words′)
+serves-once g g′ = (g .answers ∙ sym (g′ .answers), g .leaves ∙ sym (g′ .leaves))
+
+pub fills-once : {batch : Batch} {records records′ : List Request} {words words′ : List ℕ} → Fills batch records words
+    → Fills batch records′ words′ → (records ≡ records′) × (words ≡ words′)
+fills-once g g′ = (g .answers ∙ sym (g′ .answers), g .leaves ∙ sym (g′ .leaves))
 
 -- ---- a batch, by any library
 
@@ -70,11 +84,11 @@ module _ (library : Library) where
       let outcome = madeSingly library (wantedIn r) a in
       ap (λ (b : Batch). record { records = filled r (served (outcome .answer)) ∷ b .records; words = b .words }) (batch-both (outcome .words) rs ss)
 
-  -- there are as many records as before
-  pub batch-count : (a : List ℕ) (rs : List Request) → length (batchBy library a rs .records) ≡ length rs
+  -- the records stay as many, and what they ask stays
+  pub batch-asks : (a : List ℕ) (rs : List Request) → map asking (batchBy library a rs .records) ≡ map asking rs
   unfolding batchBy
-  batch-count a [] = refl
-  batch-count a (r ∷ rs) = ap suc (batch-count (madeSingly library (wantedIn r) a .words) rs)
+  batch-asks a [] = refl
+  batch-asks a (r ∷ rs) = ap (λ (l : List (ℕ × ℕ × ℕ)). asking r ∷ l) (batch-asks (madeSingly library (wantedIn r) a .words) rs)
 
 -- ---- our calls
 
@@ -102,7 +116,7 @@ module _ (a : List ℕ) where
       }
 
   -- a request behaves as its call does; one of an unknown kind is refused with Frame, whatever the words are
-  pub wanted-behaves : (w : Wanted) → Behaves (fieldsOf w) a (WantedRefused w a) (madeSingly ours w a)
+  pub wanted-behaves : (w : Wanted) → Behaves (wantedFields w) a (WantedRefused w a) (madeSingly ours w a)
   wanted-behaves (known start) = start-behaves a
   wanted-behaves (known (alloc w)) = alloc-behaves a w
   wanted-behaves (known (free b)) = free-behaves a b
@@ -122,7 +136,7 @@ module _ (a : List ℕ) where
       outcome .answer .code ≢ 0 → (outcome .words ≡ a) × (served (outcome .answer) .block ≡ 0) × (served (outcome .answer) .granted ≡ 0)
   refused-request w n =
       let g = wanted-behaves w in
-      (g .unchanged n, ap blockIn (g .zeros n) ∙ no-block (fieldsOf w), ap grantedIn (g .zeros n) ∙ none-granted (fieldsOf w))
+      (g .unchanged n, ap blockIn (g .zeros n) ∙ no-block (wantedFields w), ap grantedIn (g .zeros n) ∙ none-granted (wantedFields w))
     where
       no-block : (fields : ℕ) → blockIn (replicate fields 0) ≡ 0
       no-block zero = refl
@@ -133,6 +147,27 @@ module _ (a : List ℕ) where
       none-granted zero = refl
       none-granted (suc zero) = refl
       none-granted (suc (suc fields)) = refl
+
+-- a request is refused with Frame, on whatever words, only if its kind is unknown
+pub only-unknown : (kind b n : ℕ) (a : List ℕ) → madeSingly ours (wanted kind b n) a .answer .code ≡ number Frame → wanted kind b n ≡ unknown
+unfolding wanted
+only-unknown kind b n a = go (eqb kind 1) (eqb kind 2) (eqb kind 3) (eqb kind 4) (eqb kind 5) (eqb kind 6)
+  where
+    go : (alloc? free? realloc? resize? relocate? size? : Bool)
+        → let w =
+        cond alloc? (known (alloc n))
+        (cond free? (known (free b))
+        (cond realloc? (known (realloc b n))
+        (cond resize? (known (resize b n)) (cond relocate? (known (relocate b n)) (cond size? (known (size b)) unknown)))))
+        in
+        madeSingly ours w a .answer .code ≡ number Frame → w ≡ unknown
+    go true _ _ _ _ _ e = absurd (alloc-behaves a n .refused Frame .0 e)
+    go false true _ _ _ _ e = absurd (free-behaves a b .refused Frame .0 e)
+    go false false true _ _ _ e = absurd (realloc-behaves a b n .refused Frame .0 e)
+    go false false false true _ _ e = absurd (resize-behaves a b n .refused Frame .0 e)
+    go false false false false true _ e = absurd (relocate-behaves a b n .refused Frame .0 e)
+    go false false false false false true e = absurd (size-behaves a b .refused Frame .0 e)
+    go false false false false false false e = refl
 
 -- a batch keeps the number of words, and a sound arena sound
 pub batch-length : (a : List ℕ) (rs : List Request) → length (batchOn a rs .words) ≡ length a

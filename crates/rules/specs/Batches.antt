@@ -8,7 +8,7 @@ use Rattle.layout.specs.declared.Reason.{Reason}
 use Rattle.layout.specs.declared.Reason.the-variants.{Frame}
 use Rattle.rules.specs.Answers.{Answer, Outcome, blockIn, grantedIn, noCall}
 use Rattle.rules.specs.Causes.{CallRefused}
-use Rattle.rules.specs.Libraries.{Call, alloc, free, realloc, resize, relocate, size, Library, ours, fieldsIn}
+use Rattle.rules.specs.Libraries.{Call, alloc, free, realloc, resize, relocate, size, Library, ours, callFields}
 use Rattle.rules.specs.declared.Request.{Request}
 use Rattle.rules.specs.declared.Served.{Served}
 
@@ -41,9 +41,9 @@ WantedRefused (known c) a why = CallRefused c a why
 WantedRefused unknown a why = why ≡ Frame
 
 -- how many fields its answer has
-abbrev pub fieldsOf : Wanted → ℕ
-fieldsOf (known c) = fieldsIn c
-fieldsOf unknown = 0
+abbrev pub wantedFields : Wanted → ℕ
+wantedFields (known c) = callFields c
+wantedFields unknown = 0
 
 -- an answer, as a record has it
 abbrev pub served : Answer → Served

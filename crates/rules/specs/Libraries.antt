@@ -37,15 +37,15 @@ ours (write text) a = writeOn a text
 ours (read text) a = readOn text a
 
 -- how many fields an answer has, but that a view answers as many words as the block has
-abbrev pub fieldsIn : Call → ℕ
-fieldsIn start = 0
-fieldsIn (alloc w) = 2
-fieldsIn (free b) = 0
-fieldsIn (resize b w) = 2
-fieldsIn (relocate b w) = 2
-fieldsIn (realloc b w) = 2
-fieldsIn (size b) = 1
-fieldsIn (view b) = 0
-fieldsIn report = 4
-fieldsIn (write text) = 1
-fieldsIn (read text) = 0
+abbrev pub callFields : Call → ℕ
+callFields start = 0
+callFields (alloc w) = 2
+callFields (free b) = 0
+callFields (resize b w) = 2
+callFields (relocate b w) = 2
+callFields (realloc b w) = 2
+callFields (size b) = 1
+callFields (view b) = 0
+callFields report = 4
+callFields (write text) = 1
+callFields (read text) = 0
