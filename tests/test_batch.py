@@ -6,7 +6,7 @@ from random import Random
 
 from support import arenas, batches, c_programs, cases, driver, model, pictures, programs
 from support.batches import ALLOC, FREE, REALLOC, RELOCATE, RESIZE, SIZE, Answer, Case, Record
-from support.comparing import run_cases, run_rows
+from support.comparing import compare_own_cases, run_cases, run_rows
 from test_call_rows import SHORT_GAP, counted, words
 from test_damaged_arenas import asked_for, block_for
 
@@ -333,16 +333,24 @@ def compare_program(command, chosen, rounds):
     return f"{told}; {rows:,} lists by hand, one of {longest:,} requests, and {cuts:,} cuts of a batch in two"
 
 
-def compare(chosen):
+def compare_from_c(chosen):
     """All of that through the C program, which makes each request singly, too; few batches go with a shorter list."""
     source = os.path.join(chosen.root, "tests", "support", "c_batch.c")
     try:
         command = c_programs.build("c_batch", "c99", source, chosen.root)
     except c_programs.NotHere as told:
-        return f"nothing was compared{c_programs.skipped([str(told)])}"
-    told = compare_program(command, chosen, MANY_ROUNDS if chosen.count >= BATCHES else ROUNDS)
-    return f"{told}; each batch was the same requests made singly"
+        return f"nothing from C{c_programs.skipped([str(told)])}"
+    compare_program(command, chosen, MANY_ROUNDS if chosen.count >= BATCHES else ROUNDS)
+    return "from C each batch was the same requests made singly, in lists of records"
+
+
+def compare(chosen):
+    """All of that from C, and then through the program whose records are plain words."""
+    from_c = compare_from_c(chosen)
+    told = compare_program(chosen.batch_cases, chosen, ROUNDS)
+    own = compare_own_cases("batch_cases", batches)
+    return f"{told}; {own} cases of the program's own; {from_c}"
 
 
 if __name__ == "__main__":
-    driver.finish("test_batch", compare, driver.options(__doc__, BATCHES, named=(), root=programs.ROOT))
+    driver.finish("test_batch", compare, driver.options(__doc__, BATCHES, named=("batch_cases",), root=programs.ROOT))

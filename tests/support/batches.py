@@ -53,6 +53,27 @@ def case_bytes(case):
     return packed([len(listed), len(case.words), *listed, *case.words])
 
 
+def records_in(listed):
+    """The records that a list's words spell, and the words left over."""
+    whole = len(listed) - len(listed) % RECORD_WORDS
+    return [Record(*listed[at:at + RECORD_WORDS]) for at in range(0, whole, RECORD_WORDS)], listed[whole:]
+
+
+def cases_in(content):
+    """The cases that these bytes hold, up to one that is cut short or too long."""
+    found = []
+    at = 0
+    while at + CASE_HEAD <= len(content):
+        listed, length = struct.unpack_from("<2I", content, at)
+        end = at + CASE_HEAD + 4 * (listed + length)
+        if listed > LONGEST_LIST or length > LONGEST_ARENA or end > len(content):
+            break
+        words = list(struct.unpack_from(f"<{listed + length}I", content, at + CASE_HEAD))
+        found.append(Case(*records_in(words[:listed]), words[listed:]))
+        at = end
+    return found
+
+
 def reply_bytes(answer):
     """A reply as a program writes it."""
     return packed([*list_words(answer), *answer.words])
@@ -60,11 +81,9 @@ def reply_bytes(answer):
 
 def reply_in(case, reply):
     """The answer that a reply to this case holds: a batch changes neither the length of the list nor the arena's."""
-    whole = RECORD_WORDS * len(case.records)
-    end = whole + len(case.over)
-    words = list(struct.unpack_from(f"<{end + len(case.words)}I", reply))
-    records = [Record(*words[at:at + RECORD_WORDS]) for at in range(0, whole, RECORD_WORDS)]
-    return Answer(records, words[whole:end], words[end:])
+    listed = len(list_words(case))
+    words = list(struct.unpack_from(f"<{listed + len(case.words)}I", reply))
+    return Answer(*records_in(words[:listed]), words[listed:])
 
 
 def replies_in(asked, got):
