@@ -1,11 +1,11 @@
 -- How a loop over the records of a batch goes: those before a place are filled, and those behind it are as they came.
-use Prim.Native.Nat.{ℕ, _+_, _<_}
+use Prim.Native.Nat.{ℕ}
 use mathlib.Core.Path.{_≡_, refl, sym, ap, _∙_}
 use mathlib.Core.List.{List, [], _∷_, _++_, append-assoc}
 use native.Mathlib.Omega.{arith}
 use lib.ListN.{length, length-append}
 use Rattle.rules.specs.Libraries.{ours}
-use Rattle.rules.specs.Batches.{madeSingly, served, wantedIn, filled, Batch, batchOn, FillsOne, Fills}
+use Rattle.rules.specs.Batches.{madeSingly, served, wantedIn, filled, Batch, batchOn, Fills}
 use Rattle.rules.specs.declared.Request.{Request}
 use Rattle.rules.proofs.Batches.{batch-none, batch-more}
 

@@ -1,6 +1,6 @@
 -- How an answer's numbers go into a record: by how many fields there are.
 use Prim.Native.Nat.{ℕ, zero, suc}
-use mathlib.Core.Path.{_≡_, refl, sym, ap, _∙_}
+use mathlib.Core.Path.{_≡_, refl, ap, _∙_}
 use mathlib.Core.Logic.{_≢_}
 use mathlib.Core.List.{List, [], _∷_}
 use native.Mathlib.Omega.{arith}
@@ -8,7 +8,7 @@ use lib.ListN.{length, getD, take}
 use Rattle.rules.specs.Answers.{Answer, Outcome, blockIn, grantedIn}
 use Rattle.rules.specs.Batches.{served, Serves}
 use Rattle.rules.specs.declared.Served.{Served}
-use Rattle.answers.specs.Padded.{padded, answerIn, Settles}
+use Rattle.answers.specs.Padded.{padded, Settles}
 use Rattle.answers.specs.declared.Numbers.{Numbers}
 use Rattle.batch.specs.InRecords.{servedIn}
 

@@ -7,7 +7,7 @@ use native.Mathlib.Nat.{suc-add}
 use lib.ListN.{length, getD, drop, length-append}
 use lib.Seq.{sets, getD-append-seam, getD-append-add}
 use Rattle.rules.specs.Libraries.{ours}
-use Rattle.rules.specs.Batches.{madeSingly, wanted, wantedIn, Batch, batchOn, Serves}
+use Rattle.rules.specs.Batches.{madeSingly, wanted, wantedIn, batchOn, Serves}
 use Rattle.rules.specs.declared.Request.{Request}
 use Rattle.rules.specs.declared.Served.{Served}
 use Rattle.batch.specs.SixWords.{recordsIn, leftOver, spelled, FillsWords}

@@ -6,7 +6,7 @@ use mathlib.Core.Logic.{_≢_, _↔_, _⊎_}
 use mathlib.Core.Bool.{true}
 use mathlib.Core.List.{List, [], _∷_, _++_}
 use lib.ListN.{length, getD, take, drop}
-use Rattle.layout.specs.Numbers.{controlWords, headerWords, leastSplit, lawful, greatestRequest, need}
+use Rattle.layout.specs.Numbers.{controlWords, headerWords, leastSplit, lawful, need}
 use Rattle.layout.specs.Reasons.{number}
 use Rattle.layout.specs.declared.Reason.{Reason}
 use Rattle.layout.specs.declared.Reason.the-variants.{Length, Damaged, NotABlock, NoRoom, WouldMove, TextRoom}

@@ -1,7 +1,7 @@
 -- What a batch comes to: one record after the other, each as its call made singly.
 use Prim.Native.Nat.{ℕ, zero, suc}
 use mathlib.Core.Path.{_≡_, refl, sym, ap, _∙_}
-use mathlib.Core.Logic.{_≢_, _↔_}
+use mathlib.Core.Logic.{_≢_}
 use mathlib.Core.Bool.{Bool, true, false, cond}
 use mathlib.Core.List.{List, [], _∷_, _++_, map}
 use native.Mathlib.Omega.{arith}
@@ -10,12 +10,11 @@ use lib.Dec.{eqb}
 use borrow.Author.Tests.{ne-eqb}
 use Rattle.layout.specs.Walk.{sound}
 use Rattle.layout.specs.Reasons.{number}
-use Rattle.layout.specs.declared.Reason.{Reason}
 use Rattle.layout.specs.declared.Reason.the-variants.{Frame}
 use Rattle.layout.proofs.Reasons.{number-positive, number-injective}
 use Rattle.rules.specs.Answers.{Outcome, blockIn, grantedIn, noCall}
 use Rattle.rules.specs.Behaves.{Behaves}
-use Rattle.rules.specs.Libraries.{Call, start, alloc, free, resize, relocate, realloc, size, view, report, write, read, Library, ours}
+use Rattle.rules.specs.Libraries.{start, alloc, free, resize, relocate, realloc, size, view, report, write, read, Library, ours}
 use Rattle.rules.specs.Batches.{Wanted, known, unknown, wanted, madeSingly, WantedRefused, wantedFields, served, wantedIn, filled, Batch, batchBy, batchOn}
 use Rattle.rules.specs.Batches.{Serves, FillsOne, Fills}
 use Rattle.rules.specs.declared.Request.{Request}

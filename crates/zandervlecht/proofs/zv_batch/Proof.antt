@@ -8,8 +8,8 @@ use native.Mathlib.Omega.{arith}
 use native.Mathlib.Nat.{lt-suc-self}
 use mathlib.Core.Bool.{Bool, true, false}
 use mathlib.Core.List.{[], _∷_, List, _++_, append-assoc}
-use mathlib.Core.WellFounded.{WellFounded, InvImage·wf}
-use lib.ListN.{length, getD, set, length-append}
+use mathlib.Core.WellFounded.{InvImage·wf}
+use lib.ListN.{length, length-append}
 use lib.Seq.{getD-append-seam, set-append-seam}
 use lib.WfN.{Nat·lt-wfRel}
 use lib.Dec.{T, ltb, lt→ltb, ltb→lt, lit<}
@@ -19,7 +19,7 @@ use mir.Syntax.{Ty, Fn, Body as Code, local, valueLocal, seq, assign, place as a
 use mir.Syntax.{tyInt, tyBool, tyPtr, tyUnit, tyRef, loop}
 use mir.Val.{Val, vunit, vbool, vint, vptr}
 use base.Logic.{SProp, ent, sep, ex, guard, emp, via, fst∗, id⊢, exI, guardI}
-use base.Fml.{Lft, Share, GName, Fml, ftrue, fat, froom, fdies, flft, flent, fobs, fauth, fbor, fobor}
+use base.Fml.{Lft, Share, GName, ftrue, fat, froom, fdies, flft, flent, fobs, fauth, fbor, fobor}
 use prog.Memory.{Memory}
 use prog.Routine.{Routine}
 use prog.Wp.{Heap, Out, Env, Calls, Loops, afterSeq, afterBlock, afterTurn, Wp, atReturn, WpFn, Tables}
@@ -39,7 +39,7 @@ use sound.WpLaws.{fmOf, WpFn-mono}
 use denote.RattleType.{RattleType, owns}
 use denote.Shadow.{pureI}
 use denote.Memory.{mem, pointee, cellAt}
-use denote.Laws.{Is, shows}
+use denote.Laws.{Is, shows, Tells}
 use denote.Builtin.{u32}
 use denote.Ref.{RefT}
 use denote.Lend.{Held, lends-slice, slice-back}
@@ -81,8 +81,12 @@ fails : (t : Bool) → (T t → ⊥) → t ≡ false
 fails true f = absurd (f tt)
 fails false _ = refl
 
+-- a record, as a type of the code
+abbrev Record : RattleType
+Record = request.the-row
+
 abbrev stayed : Stays (zv-batch.ended .signature .params) (zv-batch.ended .kept)
-stayed = (stay-slice (0 ∷ []) tt (plain (λ _. u32)), (stay-slice (1 ∷ []) tt (plain (λ _. request.the-row)), tt))
+stayed = (stay-slice (0 ∷ []) tt (plain (λ _. u32)), (stay-slice (1 ∷ []) tt (plain (λ _. Record)), tt))
 
 -- the contract of `fill`
 abbrev Fill : {M : Type 1} (𝓤 : URA M) (H : Heap 𝓤) (A : Atoms 𝓤) (mem : Memory → SProp 𝓤) (run : Routine → Fun 𝓤) → Contract 𝓤
@@ -104,7 +108,7 @@ abbrev arenaTy : Ty
 arenaTy = sliceTy (tyRef (named 0) mut word)
 
 abbrev listTy : Ty
-listTy = sliceTy (tyRef (named 1) mut (pointee (request.the-row .written)))
+listTy = sliceTy (tyRef (named 1) mut (pointee (Record .written)))
 
 abbrev wordTy : Ty
 wordTy = tyRef erased mut word
@@ -114,6 +118,9 @@ lentTy = sliceTy wordTy
 
 abbrev valuesOf : Request → List Val
 valuesOf = laws.vals request.the-type request-laws.the-laws
+
+abbrev spells : Tells Record (Is Record) valuesOf
+spells = laws.tells request.the-type request-laws.the-laws
 
 -- the function's MIR, with what comes after its first statement for a variable
 abbrev function-at : Code → Fn
@@ -143,7 +150,7 @@ function-at rest =
 -- the arena is `ys` at (b, o) under γ, lent for κ; the list is `xs` at (b′, o′) under γ′, lent for κ′
 module _ {M : Type 1} (𝓤 : URA M) (H : Heap 𝓤) (A : Atoms 𝓤) (W : Given 𝓤 H A) (at-mem : Memory → SProp 𝓤) (run : Routine → Fun 𝓤) (κ κ′ : Lft)
     (q q′ : Share) (b o : ℕ) (γ : GName) (ys : List ℕ) (b′ o′ : ℕ) (γ′ : GName) (xs : List Request) (room : Room u32 (length ys))
-    (room′ : Room request.the-row (length xs)) where
+    (room′ : Room Record (length xs)) where
   abbrev arena : GName → List ℕ → RefT (List ℕ)
   arena δ ws = record { ptr = (b, o); name = δ; now = ws }
 
@@ -171,8 +178,8 @@ module _ {M : Type 1} (𝓤 : URA M) (H : Heap 𝓤) (A : Atoms 𝓤) (W : Given
 
   abbrev ListShut : List Request → List (Item 𝓤)
   ListShut rs =
-      ‵ (fobs γ′ (codedHoleys request.the-row .code (heres request.the-row rs)))
-      ∷ ‵ (fbor κ′ (Held request.the-row (length rs) b′ o′ γ′))
+      ‵ (fobs γ′ (codedHoleys Record .code (heres Record rs)))
+      ∷ ‵ (fbor κ′ (Held Record (length rs) b′ o′ γ′))
       ∷ ‵ (flft κ′ q′)
       ∷ []
 
@@ -185,23 +192,23 @@ module _ {M : Type 1} (𝓤 : URA M) (H : Heap 𝓤) (A : Atoms 𝓤) (W : Given
 
   abbrev ListOpen : List (Item 𝓤)
   ListOpen =
-      ‵ (fobor κ′ q′ (Held request.the-row (length xs) b′ o′ γ′))
-      ∷ ‵ (fobs γ′ (codedHoleys request.the-row .code (heres request.the-row xs)))
-      ∷ ‵ (fauth γ′ (codedHoleys request.the-row .code (heres request.the-row xs)))
+      ‵ (fobor κ′ q′ (Held Record (length xs) b′ o′ γ′))
+      ∷ ‵ (fobs γ′ (codedHoleys Record .code (heres Record xs)))
+      ∷ ‵ (fauth γ′ (codedHoleys Record .code (heres Record xs)))
       ∷ []
 
   -- what the contract of `fill` binds outside: the words lent for the lifetime ν, under the name δ, and the record
   abbrev to-fill : ℕ → GName → List ℕ → Request → Fill 𝓤 H A at-mem run .Ghost
   to-fill ν δ ws r = (((ν ∷ [], tt), (fullShare, tt), tt, (arena δ ws, (r, tt)), (arenaVal (length ws) ∷ [], (valuesOf r, tt))), tt)
 
-  asks-fill : (ν : ℕ) (δ : GName) (ws : List ℕ) (r : Request) → Is request.the-row r (valuesOf r)
+  asks-fill : (ν : ℕ) (δ : GName) (ws : List ℕ) (r : Request) → Is Record r (valuesOf r)
       → ent 𝓤
       (sep 𝓤 (A .lft (ν ∷ []) fullShare) (sem 𝓤 H A (MutSlice (named 0) (ν ∷ []) u32 .own (arena δ ws) (arenaVal (length ws) ∷ []))))
       (Fill 𝓤 H A at-mem run .pre (to-fill ν δ ws r))
   asks-fill ν δ ws r is =
       qed W (‵ (flft (ν ∷ []) fullShare) ∷ ‵ (MutSlice (named 0) (ν ∷ []) u32 .own (arena δ ws) (arenaVal (length ws) ∷ [])) ∷ []) ∵
       nothing ! $ move ! (1 ∷ 0 ∷ []) $ join ! $ nothing ! $
-      owned ! request.the-row (Is request.the-row) (laws.makes request.the-type request-laws.the-plain 𝓤 H A) r (valuesOf r) is $
+      owned ! Record (Is Record) (laws.makes request.the-type request-laws.the-plain 𝓤 H A) r (valuesOf r) is $
       fjoin ! $ move ! (2 ∷ 0 ∷ []) $ fjoin ! $ move ! (1 ∷ 0 ∷ []) $ join ! $ frame ! $ done !
 
   -- both borrows are closed, and what they hold is what the batch comes to
@@ -217,8 +224,8 @@ module _ {M : Type 1} (𝓤 : URA M) (H : Heap 𝓤) (A : Atoms 𝓤) (W : Given
       (ends-at 𝓤 H A zv-batch.ended stayed (zv-batch.clauses 𝓤 H A at-mem run) W (((κ, (κ′, tt)), (q, (q′, tt)), tt, arguments, values), tt)
       vunit tt (ws, (rs, tt)) (long, (count, tt))) $
       says ! fills $ nothing ! $ move ! (3 ∷ 0 ∷ []) $ join ! $ move ! (4 ∷ 0 ∷ []) $ join ! $ frame ! $ fjoin ! $
-      pureI ! (at-slice request.the-row (list rs) (listVal ∷ [])) (tt, (tt, tt))
-      (ap (λ (m : ℕ). sliceVal (b′, o′) m ∷ []) (sym count), subst (Room request.the-row) (sym count) room′) $ fjoin ! $
+      pureI ! (at-slice Record (list rs) (listVal ∷ [])) (tt, (tt, tt))
+      (ap (λ (m : ℕ). sliceVal (b′, o′) m ∷ []) (sym count), subst (Room Record) (sym count) room′) $ fjoin ! $
       nothing ! $ move ! (1 ∷ 0 ∷ []) $ fjoin ! $ move ! (1 ∷ 0 ∷ []) $ fjoin ! $
       feqI ! (List Val) (vunit ∷ []) (vunit ∷ []) refl $ move ! (1 ∷ 0 ∷ []) $ done !
 
@@ -250,7 +257,7 @@ module _ {M : Type 1} (𝓤 : URA M) (H : Heap 𝓤) (A : Atoms 𝓤) (W : Given
       -- what the loop has where the words are ws, and the records before ++ rest, of which those before are filled
       abbrev At : List ℕ → List Request → List Request → List (Item 𝓤)
       At ws before rest =
-          (‵ (row request.the-row fullShare (before ++ rest) b′ o′) ∷ ListOpen)
+          (‵ (row Record fullShare (before ++ rest) b′ o′) ∷ ListOpen)
           ++ (‵ (row u32 fullShare ws b o) ∷ ArenaOpen)
           ++ (‵ (fat fullShare size l₃ 0 (vint w64 (length before)))
           ∷ ‵ (fdies size l₃)
@@ -283,10 +290,11 @@ module _ {M : Type 1} (𝓤 : URA M) (H : Heap 𝓤) (A : Atoms 𝓤) (W : Given
           (init ! 14 refl (tt, record { fits = room′ .0 })) $
           assigns ! (bin ! (load ! (from ! (stop !)) (look ! 8 refl)) (load ! (from ! (stop !)) (look ! 14 refl)) tt) (from ! (stop !))
           (init ! 16 refl (tt, tt)) $
-          rewrite ! 16 (λ (t : Bool). ‵ (fat fullShare tyBool l₅ 0 (vbool t))) (fails (ltb (length before) (length xs)) (λ z. no (ltb→lt _ _ z))) refl $
+          rewrite ! 16 (λ (t : Bool). ‵ (fat fullShare tyBool l₅ 0 (vbool t)))
+          (fails (ltb (length before) (length xs)) (λ z. no (ltb→lt _ _ z))) refl $
           leaves-loop ! (load ! (from ! (stop !)) (look ! 16 refl)) $ exec ! C Λ Locals code-mir.t-3 (atRet Locals Post) $
           assigns ! (of-opd ! (unit-lit !)) (from ! (stop !)) (init ! 32 refl (tt, tt)) $
-          closes-slice ! tt request.the-row xs (before ++ []) count b′ o′ $ move ! (3 ∷ 4 ∷ 5 ∷ 6 ∷ []) $ closes-slice ! tt u32 ys ws long b o $
+          closes-slice ! tt Record xs (before ++ []) count b′ o′ $ move ! (3 ∷ 4 ∷ 5 ∷ 6 ∷ []) $ closes-slice ! tt u32 ys ws long b o $
           -- [the arena's borrow, in three; the list's, in three; _3; …; _1; …; _2; …; _4; …; _12; …; _0; …]
           returns ! (look ! 30 refl) $
           forget ! 6 refl $ forget ! 8 refl $ forget ! 10 refl $ forget ! 12 refl $ forget ! 14 refl $ forget ! 30 refl $
@@ -314,19 +322,23 @@ module _ {M : Type 1} (𝓤 : URA M) (H : Heap 𝓤) (A : Atoms 𝓤) (W : Given
           (init ! 16 refl (tt, tt)) $
           rewrite ! 16 (λ (t : Bool). ‵ (fat fullShare tyBool l₅ 0 (vbool t))) (holds (ltb i (length xs)) (lt→ltb _ _ within-xs)) refl $
           stays ! (load ! (from ! (stop !)) (look ! 16 refl)) $
-          assigns ! (addr ! (from ! (fld ! refl (hop ! (look-in ! 10 (sub ! 0 refl (whole !))) (stop !))))) (from ! (stop !)) (init ! 20 refl (tt, tt)) $
-          assigns ! (agg ! (and-then ! (load ! (from ! (stop !)) (look ! 20 refl)) (and-then ! (load ! (from ! (fld ! refl (stop !))) (look-in ! 10 (sub ! 1 refl (whole !)))) (no-more !)))) (from ! (stop !))
+          assigns ! (addr ! (from ! (fld ! refl (hop ! (look-in ! 10 (sub ! 0 refl (whole !))) (stop !))))) (from ! (stop !))
+          (init ! 20 refl (tt, tt)) $
+          assigns !
+          (agg ! (and-then ! (load ! (from ! (stop !)) (look ! 20 refl)) (and-then ! (load ! (from ! (fld ! refl (stop !))) (look-in ! 10 (sub ! 1 refl (whole !)))) (no-more !))))
+          (from ! (stop !))
           (init ! 22 refl (tt, (tt, (record { fits = room .0 }, tt)))) $
           rewrite ! 22 (λ (m : ℕ). ‵ (fat fullShare lentTy l₈ 0 (arenaVal m))) (sym long) refl $
           assigns ! (bin ! (load ! (from ! (stop !)) (look ! 8 refl)) (lit ! tt) (record { fits = at-fits })) (from ! (stop !))
           (store ! 14 refl (tt, record { fits = at-fits })) $
-          assigns ! (bin ! (load ! (from ! (fld ! refl (stop !))) (look-in ! 12 (sub ! 0 refl (whole !)))) (load ! (from ! (stop !)) (look ! 14 refl)) tt) (from ! (stop !))
+          assigns ! (bin ! (load ! (from ! (fld ! refl (stop !))) (look-in ! 12 (sub ! 0 refl (whole !)))) (load ! (from ! (stop !)) (look ! 14 refl)) tt)
+          (from ! (stop !))
           (init ! 24 refl (tt, tt)) $
           rewrite ! 24 (λ (p : ℕ). ‵ (fat fullShare tyPtr l₉ 0 (vptr b′ p))) (sym (place-is 24 o′ i)) refl $
           -- the record at the place is taken out, and copied
-          elem-out ! request.the-row (Is request.the-row) (shows 𝓤 H A request.the-row) valuesOf (laws.tells request.the-type request-laws.the-laws) fullShare (before ++ (r ∷ rest)) i r b′ o′ within (λ known-at.
-          let is-r = subst (λ (z : Request). Is request.the-row z (valuesOf z)) (getD-append-seam before r rest r) known-at in
-          rewrite ! 0 (λ (z : Request). ‵ (cellAt fullShare (request.the-row .mir) (valuesOf z) b′ (place 24 o′ i))) (getD-append-seam before r rest r) refl $
+          elem-out ! Record (Is Record) (shows 𝓤 H A Record) valuesOf spells fullShare (before ++ (r ∷ rest)) i r b′ o′ within (λ known-at.
+          let is-r = subst (λ (z : Request). Is Record z (valuesOf z)) (getD-append-seam before r rest r) known-at in
+          rewrite ! 0 (λ (z : Request). ‵ (cellAt fullShare (Record .mir) (valuesOf z) b′ (place 24 o′ i))) (getD-append-seam before r rest r) refl $
           move ! (1 ∷ []) $ drop ! $
           -- [its cell; the others; the list's open borrow; the words; the arena's open borrow; _3; …; _1; …; _2; …; _4; …; _12; …; _0; …]
           assigns ! (of-opd ! (load ! (from ! (hop ! (look ! 25 refl) (stop !))) (look-raw ! 0 refl))) (from ! (stop !))
@@ -334,21 +346,24 @@ module _ {M : Type 1} (𝓤 : URA M) (H : Heap 𝓤) (A : Atoms 𝓤) (W : Given
           -- the words are lent for a lifetime ν, under a name δ, and `fill` is called
           lft-new ! tt (λ ν. move ! (6 ∷ []) $ use1 W (‵ (cells (mem u32) ws b o)) (whole-in 𝓤 H A W u32 ws b o) $
           use1 W
-          (later (some (λ (δ : GName). ‵ (MutSlice (named 0) (ν ∷ []) u32 .own (arena δ ws) (arenaVal (length ws) ∷ [])) ⊛ ‵ (flent (ν ∷ []) (Held u32 (length ws) b o δ)))))
+          (later (some (λ (δ : GName). ‵ (MutSlice (named 0) (ν ∷ []) u32 .own (arena δ ws) (arenaVal (length ws) ∷ []))
+          ⊛ ‵ (flent (ν ∷ []) (Held u32 (length ws) b o δ)))))
           (lends-slice 𝓤 H A W u32 (named 0) (ν ∷ []) ws b o room-ws) $ await ! tt $ pick ! (λ δ. split ! $
           move ! (2 ∷ 0 ∷ []) $ use2 W (raw (Fill 𝓤 H A at-mem run .pre (to-fill ν δ ws r))) (asks-fill ν δ ws r is-r) $
           calls-at ! (fmOf 𝓤 H (W .laws) 𝓣) (Fill 𝓤 H A at-mem run) known (to-fill ν δ ws r)
           (and-then ! (load ! (from ! (stop !)) (look ! 24 refl)) (and-then ! (load ! (from ! (stop !)) (look ! 28 refl)) (no-more !))) (λ w.
           use1 W
-          (later (some (λ (z : Request). ((‵ (flft (ν ∷ []) fullShare) ⊛ ‵ ftrue) ⊛ ‵ (request.the-row .own z (w ∷ []))) ⊛ raw (ensured 𝓤 H A fill.ended (fill.clauses 𝓤 H A at-mem run) (ν ∷ [], tt) (arena δ ws, (r, tt)) tt z))))
+          (later (some (λ (z : Request). ((‵ (flft (ν ∷ []) fullShare) ⊛ ‵ ftrue) ⊛ ‵ (Record .own z (w ∷ [])))
+          ⊛ raw (ensured 𝓤 H A fill.ended (fill.clauses 𝓤 H A at-mem run) (ν ∷ [], tt) (arena δ ws, (r, tt)) tt z))))
           (id⊢ 𝓤 _) $ await ! tt $ pick ! (λ z. split ! $ move ! (1 ∷ []) $
           use1 W
-          (some (λ (zs : List ℕ × (Unit {0} × Unit {0})). ‵ (lasts fill.ended (ν ∷ [], tt) (arena δ ws, (r, tt)) zs) ⊛ raw (fact 𝓤 (Filled z (zs .0)))))
+          (some (λ (zs : List ℕ × (Unit {0} × Unit {0})). ‵ (lasts fill.ended (ν ∷ [], tt) (arena δ ws, (r, tt)) zs)
+          ⊛ raw (fact 𝓤 (Filled z (zs .0)))))
           (id⊢ 𝓤 _) $ pick ! (λ zs. split ! $ move ! (1 ∷ []) $
           heard ! (Filled z (zs .0)) (λ e. fsplit ! $ fsplit ! $ move ! (1 ∷ []) $ feqL ! (λ same.
           -- its answer is stored in a local, the lifetime is ended, and the words come back
-          move ! (2 ∷ []) $ split ! $ move ! (1 ∷ []) $ rewrite ! 0 (λ (u : Request). ‵ (request.the-row .own u (w ∷ []))) (e .answers) refl $
-          peeks ! request.the-row (Is request.the-row) (shows 𝓤 H A request.the-row) got (w ∷ []) (λ is.
+          move ! (2 ∷ []) $ split ! $ move ! (1 ∷ []) $ rewrite ! 0 (λ (u : Request). ‵ (Record .own u (w ∷ []))) (e .answers) refl $
+          peeks ! Record (Is Record) (shows 𝓤 H A Record) got (w ∷ []) (λ is.
           land ! (from ! (stop !)) (init ! 23 refl (laws.lawful request.the-type request-laws.the-laws 𝓤 H A W .typed got _ is .0)) $
           drop ! $ split ! $ lft-end ! tt $ move ! (0 ∷ 4 ∷ 2 ∷ []) $
           use3 W (later (‵ (Arr (mem u32) (length ws) .lies (zs .0) b o))) (slice-back 𝓤 H A W u32 (ν ∷ []) δ (zs .0) (length ws) b o) $ await ! tt $
@@ -356,22 +371,26 @@ module _ {M : Type 1} (𝓤 : URA M) (H : Heap 𝓤) (A : Atoms 𝓤) (W : Given
           -- [the words; true; true; the record's cell; the others; the list's open borrow; the arena's; _3; …; _1; …; _2; …; _4; …; _12; …; _0; …]
           assigns ! (bin ! (load ! (from ! (stop !)) (look ! 11 refl)) (lit ! tt) (record { fits = at-fits })) (from ! (stop !))
           (init ! 31 refl (tt, record { fits = at-fits })) $
-          assigns ! (bin ! (load ! (from ! (fld ! refl (stop !))) (look-in ! 15 (sub ! 0 refl (whole !)))) (load ! (from ! (stop !)) (look ! 31 refl)) tt) (from ! (stop !))
+          assigns ! (bin ! (load ! (from ! (fld ! refl (stop !))) (look-in ! 15 (sub ! 0 refl (whole !)))) (load ! (from ! (stop !)) (look ! 31 refl)) tt)
+          (from ! (stop !))
           (init ! 33 refl (tt, tt)) $
           rewrite ! 33 (λ (p : ℕ). ‵ (fat fullShare tyPtr l₁₂ 0 (vptr b′ p))) (sym (place-is 24 o′ i)) refl $
           assigns ! (of-opd ! (load ! (from ! (stop !)) (look ! 21 refl))) (from ! (hop ! (look ! 33 refl) (stop !)))
           (store-raw ! 3 refl (laws.lawful request.the-type request-laws.the-laws 𝓤 H A W .typed got _ is .0)) $
           -- the record is put back, filled, and the place goes up
-          owned ! request.the-row (Is request.the-row) (laws.makes request.the-type request-laws.the-plain 𝓤 H A) got (w ∷ []) is $
-          move ! (4 ∷ 0 ∷ 5 ∷ []) $ elem-put ! request.the-row fullShare (before ++ (r ∷ rest)) i got (w ∷ []) b′ o′ within $
-          rewrite ! 0 (λ (rs : List Request). ‵ (row request.the-row fullShare rs b′ o′)) (set-append-seam before r rest got ∙ sym (append-assoc before (got ∷ []) rest)) refl $
+          owned ! Record (Is Record) (laws.makes request.the-type request-laws.the-plain 𝓤 H A) got (w ∷ []) is $
+          move ! (4 ∷ 0 ∷ 5 ∷ []) $ elem-put ! Record fullShare (before ++ (r ∷ rest)) i got (w ∷ []) b′ o′ within $
+          rewrite ! 0 (λ (rs : List Request). ‵ (row Record fullShare rs b′ o′))
+          (set-append-seam before r rest got ∙ sym (append-assoc before (got ∷ []) rest)) refl $
           -- [the records; the words; true; true; the list's open borrow; the arena's; _3; …; _1; …; _2; …; _4; …; _12; …; _0; …]
           assigns-last ! (bin ! (load ! (from ! (stop !)) (look ! 10 refl)) (lit ! tt) (record { fits = next-fits })) (from ! (stop !))
           (store ! 10 refl (tt, record { fits = next-fits })) $
           rewrite ! 10 (λ (j : ℕ). ‵ (fat fullShare size l₃ 0 (vint w64 j))) (next-is got) refl $
           forget ! 16 refl $ forget ! 18 refl $ forget ! 20 refl $ forget ! 22 refl $ forget ! 24 refl $ forget ! 26 refl $ forget ! 28 refl $
           forget ! 30 refl $ forget ! 32 refl $
-          keep ! (0 ∷ 4 ∷ 5 ∷ 6 ∷ 1 ∷ 7 ∷ 8 ∷ 9 ∷ 10 ∷ 11 ∷ 12 ∷ 13 ∷ 14 ∷ 15 ∷ 16 ∷ 17 ∷ 18 ∷ 19 ∷ 20 ∷ 21 ∷ 22 ∷ 23 ∷ 24 ∷ 25 ∷ 26 ∷ 27 ∷ 28 ∷ 29 ∷ 30 ∷ 31 ∷ 32 ∷ 33 ∷ 34 ∷ 35 ∷ []) $
+          keep !
+          (0 ∷ 4 ∷ 5 ∷ 6 ∷ 1 ∷ 7 ∷ 8 ∷ 9 ∷ 10 ∷ 11 ∷ 12 ∷ 13 ∷ 14 ∷ 15 ∷ 16 ∷ 17
+          ∷ 18 ∷ 19 ∷ 20 ∷ 21 ∷ 22 ∷ 23 ∷ 24 ∷ 25 ∷ 26 ∷ 27 ∷ 28 ∷ 29 ∷ 30 ∷ 31 ∷ 32 ∷ 33 ∷ 34 ∷ 35 ∷ []) $
           by ! (k (zs .0) same (e .leaves)))))))))))
         where
           i : ℕ
@@ -421,7 +440,8 @@ module _ {M : Type 1} (𝓤 : URA M) (H : Heap 𝓤) (A : Atoms 𝓤) (W : Given
       -- what the function has where its locals are made and the place is 0
       abbrev Entered : List (Item 𝓤)
       Entered =
-          rooms 𝓤 H ((tyPtr, l₁₂) ∷ (size, l₁₁) ∷ (request-laws.mir, l₁₀) ∷ (tyPtr, l₉) ∷ (lentTy, l₈) ∷ (wordTy, l₇) ∷ (request-laws.mir, l₆) ∷ (tyBool, l₅) ∷ (size, l₄) ∷ [])
+          rooms 𝓤 H ((tyPtr, l₁₂) ∷ (size, l₁₁) ∷ (request-laws.mir, l₁₀) ∷ (tyPtr, l₉) ∷ (lentTy, l₈)
+          ∷ (wordTy, l₇) ∷ (request-laws.mir, l₆) ∷ (tyBool, l₅) ∷ (size, l₄) ∷ [])
           ++ (‵ (fat fullShare size l₃ 0 (vint w64 0))
           ∷ ‵ (fdies size l₃)
           ∷ ‵ (fat fullShare listTy l₂ 0 listVal)
@@ -431,17 +451,20 @@ module _ {M : Type 1} (𝓤 : URA M) (H : Heap 𝓤) (A : Atoms 𝓤) (W : Given
           ∷ ‵ (froom tyUnit l₀ 0)
           ∷ ‵ (fdies tyUnit l₀)
           ∷ (‵ (flft κ q) ⊛ (‵ (flft κ′ q′) ⊛ ‵ ftrue))
-          ∷ ‵ (owns (MutSlice (named 0) κ u32 ∷ MutSlice (named 1) κ′ request.the-row ∷ []) arguments values)
+          ∷ ‵ (owns (MutSlice (named 0) κ u32 ∷ MutSlice (named 1) κ′ Record ∷ []) arguments values)
           ∷ [])
 
       -- both borrows are opened, and the loop runs
       opened : ent 𝓤 (⋆ 𝓤 H A Entered) (Wp 𝓤 H C Λ Locals code-mir.t-2 (atReturn 𝓤 H Locals Post))
       opened =
-          qed W Entered ∵ exec ! C Λ Locals code-mir.t-2 (atRet Locals Post) $ move ! (27 ∷ []) $ fsplit ! $ move ! (1 ∷ []) $ fsplit ! $ fsplit ! $ drop ! $ fsplit ! $
-          move ! (30 ∷ []) $ split ! $ move ! (1 ∷ []) $ split ! $ move ! (3 ∷ 4 ∷ 0 ∷ []) $ opens-slice ! tt request.the-row xs b′ o′ $
+          qed W Entered ∵ exec ! C Λ Locals code-mir.t-2 (atRet Locals Post) $
+          move ! (27 ∷ []) $ fsplit ! $ move ! (1 ∷ []) $ fsplit ! $ fsplit ! $ drop ! $ fsplit ! $
+          move ! (30 ∷ []) $ split ! $ move ! (1 ∷ []) $ split ! $ move ! (3 ∷ 4 ∷ 0 ∷ []) $ opens-slice ! tt Record xs b′ o′ $
           -- [the records; the list's open borrow, in three; true; the arena's token; true; what its borrow owns; _12; …; _0; …]
           move ! (7 ∷ []) $ fsplit ! $ drop ! $ fsplit ! $ move ! (0 ∷ 1 ∷ 7 ∷ []) $ opens-slice ! tt u32 ys b o $
-          keep ! (4 ∷ 5 ∷ 6 ∷ 7 ∷ 0 ∷ 1 ∷ 2 ∷ 3 ∷ 28 ∷ 29 ∷ 32 ∷ 33 ∷ 30 ∷ 31 ∷ 26 ∷ 27 ∷ 24 ∷ 25 ∷ 22 ∷ 23 ∷ 20 ∷ 21 ∷ 18 ∷ 19 ∷ 16 ∷ 17 ∷ 14 ∷ 15 ∷ 12 ∷ 13 ∷ 10 ∷ 11 ∷ 34 ∷ 35 ∷ []) $
+          keep !
+          (4 ∷ 5 ∷ 6 ∷ 7 ∷ 0 ∷ 1 ∷ 2 ∷ 3 ∷ 28 ∷ 29 ∷ 32 ∷ 33 ∷ 30 ∷ 31
+          ∷ 26 ∷ 27 ∷ 24 ∷ 25 ∷ 22 ∷ 23 ∷ 20 ∷ 21 ∷ 18 ∷ 19 ∷ 16 ∷ 17 ∷ 14 ∷ 15 ∷ 12 ∷ 13 ∷ 10 ∷ 11 ∷ 34 ∷ 35 ∷ []) $
           first ! $ blocks ! $ by ! loops
 
     -- the locals are made, whatever comes after the first statement: with that a variable there is little to compute
@@ -454,11 +477,12 @@ module _ {M : Type 1} (𝓤 : URA M) (H : Heap 𝓤) (A : Atoms 𝓤) (W : Given
     entered-at rest go =
         qed W
         ((‵ (flft κ q) ⊛ (‵ (flft κ′ q′) ⊛ ‵ ftrue))
-        ∷ ‵ (owns (MutSlice (named 0) κ u32 ∷ MutSlice (named 1) κ′ request.the-row ∷ []) arguments values)
+        ∷ ‵ (owns (MutSlice (named 0) κ u32 ∷ MutSlice (named 1) κ′ Record ∷ []) arguments values)
         ∷ []) ∵ enter ! C Λ (function-at rest) (arenaVal (length ys) ∷ listVal ∷ []) _ $
         alloc1 ! (λ l₀. alloc1 ! (λ l₁. alloc1 ! (λ l₂. alloc1 ! (λ l₃. alloc1 ! (λ l₄. alloc1 ! (λ l₅. alloc1 ! (λ l₆. alloc1 ! (λ l₇.
         alloc1 ! (λ l₈. alloc1 ! (λ l₉. alloc1 ! (λ l₁₀. alloc1 ! (λ l₁₁. alloc1 ! (λ l₁₂. alloc0 ! $ params1 ! $
-        pass1 ! (init ! 22 refl (tt, (tt, (record { fits = room .0 }, tt)))) $ pass1 ! (init ! 20 refl (tt, (tt, (record { fits = room′ .0 }, tt)))) $ pass0 ! $
+        pass1 ! (init ! 22 refl (tt, (tt, (record { fits = room .0 }, tt)))) $
+        pass1 ! (init ! 20 refl (tt, (tt, (record { fits = room′ .0 }, tt)))) $ pass0 ! $
         assigns ! (of-opd ! (lit ! tt)) (from ! (stop !)) (init ! 18 refl (tt, record { fits = lit< tt })) $
         by ! (go l₀ l₁ l₂ l₃ l₄ l₅ l₆ l₇ l₈ l₉ l₁₀ l₁₁ l₁₂))))))))))))))
 
@@ -474,7 +498,7 @@ module _ {M : Type 1} (𝓤 : URA M) (H : Heap 𝓤) (A : Atoms 𝓤) (W : Given
   walks =
       walked 𝓤 H A zv-batch.ended stayed (zv-batch.clauses 𝓤 H A at-mem run) (WpFn 𝓤 H (𝓣 .C) (𝓣 .Λ) code.function)
       (λ κs. (slice-vals, (slice-vals, tt)))
-      (λ κs. (mut-slice-tells (named 0) (κs .0) u32, (mut-slice-tells (named 1) (κs .1 .0) request.the-row, tt)))
+      (λ κs. (mut-slice-tells (named 0) (κs .0) u32, (mut-slice-tells (named 1) (κs .1 .0) Record, tt)))
       (λ κs qs bounds a g are.
       let words = a .0 in
       let records = a .1 .0 in
@@ -485,7 +509,7 @@ module _ {M : Type 1} (𝓤 : URA M) (H : Heap 𝓤) (A : Atoms 𝓤) (W : Given
   meets : Meets 𝓤 H A zv-batch.signature (WpFn 𝓤 H (𝓣 .C) (𝓣 .Λ) code.function) (zv-batch.spec 𝓤 H A at-mem run)
   meets =
       walk-meets 𝓤 H A zv-batch.ended stayed W
-      (goes-slice 𝓤 H A W 2 0 tt (plain (λ _. u32)), (goes-slice 𝓤 H A W 2 1 tt (plain (λ _. request.the-row)), tt))
+      (goes-slice 𝓤 H A W 2 0 tt (plain (λ _. u32)), (goes-slice 𝓤 H A W 2 1 tt (plain (λ _. Record)), tt))
       (zv-batch.clauses 𝓤 H A at-mem run) (WpFn 𝓤 H (𝓣 .C) (𝓣 .Λ) code.function) (WpFn-mono 𝓤 H (W .laws) 𝓣 code.function) walks
 
 pub zv-batch-spec : {M : Type 1} → stated.statement M
