@@ -15,7 +15,8 @@ use Rattle.layout.proofs.Reasons.{number-positive, number-injective}
 use Rattle.rules.specs.Answers.{Outcome, blockIn, grantedIn, noCall}
 use Rattle.rules.specs.Behaves.{Behaves}
 use Rattle.rules.specs.Libraries.{start, alloc, free, resize, relocate, realloc, size, view, report, write, read, Library, ours}
-use Rattle.rules.specs.Batches.{Wanted, known, unknown, wanted, madeSingly, WantedRefused, wantedFields, served, wantedIn, filled, Batch, batchBy, batchOn}
+use Rattle.rules.specs.Causes.{WantedRefused, wantedFields}
+use Rattle.rules.specs.Batches.{Wanted, known, unknown, wanted, madeSingly, served, wantedIn, filled, Batch, batchBy, batchOn}
 use Rattle.rules.specs.Batches.{Serves, FillsOne, Fills}
 use Rattle.rules.specs.declared.Request.{Request}
 use Rattle.rules.specs.declared.Served.{Served}

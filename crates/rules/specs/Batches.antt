@@ -4,11 +4,8 @@ use mathlib.Core.Path.{_≡_}
 use mathlib.Core.Bool.{cond}
 use mathlib.Core.List.{List, [], _∷_}
 use lib.Dec.{eqb}
-use Rattle.layout.specs.declared.Reason.{Reason}
-use Rattle.layout.specs.declared.Reason.the-variants.{Frame}
 use Rattle.rules.specs.Answers.{Answer, Outcome, blockIn, grantedIn, noCall}
-use Rattle.rules.specs.Causes.{CallRefused}
-use Rattle.rules.specs.Libraries.{Call, alloc, free, realloc, resize, relocate, size, Library, ours, callFields}
+use Rattle.rules.specs.Libraries.{Call, alloc, free, realloc, resize, relocate, size, Library, ours}
 use Rattle.rules.specs.declared.Request.{Request}
 use Rattle.rules.specs.declared.Served.{Served}
 
@@ -34,16 +31,6 @@ wanted kind b n =
 abbrev pub madeSingly : Library → Wanted → List ℕ → Outcome
 madeSingly library (known c) a = library c a
 madeSingly library unknown a = noCall a
-
--- why it is refused: for its call's reasons, or for its kind
-abbrev pub WantedRefused : Wanted → List ℕ → Reason → Type 0
-WantedRefused (known c) a why = CallRefused c a why
-WantedRefused unknown a why = why ≡ Frame
-
--- how many fields its answer has
-abbrev pub wantedFields : Wanted → ℕ
-wantedFields (known c) = callFields c
-wantedFields unknown = 0
 
 -- an answer, as a record has it
 abbrev pub served : Answer → Served

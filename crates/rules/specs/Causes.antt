@@ -13,6 +13,7 @@ use Rattle.layout.specs.declared.Reason.the-variants.{Length, Damaged, NotABloc
 use Rattle.rules.specs.Stands.{Stands, SomeBlock, NoBlock, NoGap}
 use Rattle.rules.specs.Pictures.{pictureOf, Says}
 use Rattle.rules.specs.Libraries.{Call, start, alloc, free as release, resize, relocate, realloc, size, view, report, write, read}
+use Rattle.rules.specs.Batches.{Wanted, known, unknown}
 
 -- a request for `w` words that an arena of `n` words may be asked: neither reason 4 nor reason 5 applies to it
 abbrev pub LawfulRequest : ℕ → ℕ → Type 0
@@ -81,7 +82,9 @@ pub data ReadRefused (text a : List ℕ) : Reason → Type 0 where
   no-length : (ws : List ℕ) → Says text ws → lawful (length ws) ≡ false → ReadRefused text a Length
   unsound : (ws : List ℕ) → Says text ws → length ws ≡ length a → lawful (length ws) ≡ true → sound ws ≡ false → ReadRefused text a Damaged
 
--- the same by the call; a view is never refused
+-- ---- by the call
+
+-- a view is never refused
 abbrev pub CallRefused : Call → List ℕ → Reason → Type 0
 CallRefused start a why = StartRefused a why
 CallRefused (alloc w) a why = AllocRefused a w why
@@ -94,3 +97,26 @@ CallRefused (view b) a why = ⊥
 CallRefused report a why = ReportRefused a why
 CallRefused (write text) a why = WriteRefused a text why
 CallRefused (read text) a why = ReadRefused text a why
+
+-- how many fields a refusal has, all of them 0
+abbrev pub callFields : Call → ℕ
+callFields start = 0
+callFields (alloc w) = 2
+callFields (release b) = 0
+callFields (resize b w) = 2
+callFields (relocate b w) = 2
+callFields (realloc b w) = 2
+callFields (size b) = 1
+callFields (view b) = 0
+callFields report = 4
+callFields (write text) = 1
+callFields (read text) = 0
+
+-- a request of a batch is refused for its call's reasons, or for its kind
+abbrev pub WantedRefused : Wanted → List ℕ → Reason → Type 0
+WantedRefused (known c) a why = CallRefused c a why
+WantedRefused unknown a why = why ≡ Frame
+
+abbrev pub wantedFields : Wanted → ℕ
+wantedFields (known c) = callFields c
+wantedFields unknown = 0

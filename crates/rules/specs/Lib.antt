@@ -4,8 +4,8 @@ pub mod Rules
 pub mod Pictures
 pub mod Calls
 pub mod Libraries
+pub mod Batches
 pub mod Stands
 pub mod Causes
 pub mod Behaves
 pub mod Rooms
-pub mod Batches

@@ -35,17 +35,3 @@ ours (view b) a = record { answer = success (viewOn a b); words = a }
 ours report a = reportOn a
 ours (write text) a = writeOn a text
 ours (read text) a = readOn text a
-
--- how many fields an answer has, but that a view answers as many words as the block has
-abbrev pub callFields : Call → ℕ
-callFields start = 0
-callFields (alloc w) = 2
-callFields (free b) = 0
-callFields (resize b w) = 2
-callFields (relocate b w) = 2
-callFields (realloc b w) = 2
-callFields (size b) = 1
-callFields (view b) = 0
-callFields report = 4
-callFields (write text) = 1
-callFields (read text) = 0
