@@ -1,6 +1,6 @@
--- Runs that are there, computed: that of document 01's table; its move, which goes on to a cut and a free, with what
--- was stored last in the block; the same move by resize and relocate, which goes on to a move to a shorter block, and
--- to a resize; and the picture of the moved arena, which is mailed and read back.
+-- Runs that are there, computed: that of document 01's table, in single calls and as one batch; its move, which goes on
+-- to a cut and a free, with what was stored last in the block; the same move by resize and relocate, which goes on to a
+-- move to a shorter block, and to a resize; and the picture of the moved arena, which is mailed and read back.
 use Prim.Native.Nat.{ℕ, _<_}
 use mathlib.Core.Path.{_≡_, refl, ap}
 use mathlib.Core.Logic.{_≢_, inl, inr, ⊎-elim}
@@ -16,12 +16,15 @@ use Rattle.rules.specs.Rules.{joined, copied}
 use Rattle.rules.specs.Pictures.{pictureOf, framesFrom, line, wordsIn, standingFrom, same, said}
 use Rattle.digits.specs.Digits.{upper, worth, glyph}
 use Rattle.rules.specs.Calls.{startOn, allocBy, freeOn, regrantBy, reportOn, writeOn, readOn}
-use Rattle.rules.specs.Libraries.{Call, start, alloc, free, resize, relocate, realloc, report, write as writePicture, read}
+use Rattle.rules.specs.Libraries.{Call, start, alloc, free, resize, relocate, realloc, size, view, report, write as writePicture, read}
 use Rattle.rules.specs.Libraries.{ours}
+use Rattle.rules.specs.Batches.{wanted, batchBy}
+use Rattle.rules.specs.declared.Request.{Request}
 use Rattle.ledger.specs.Events.{Event, call, store}
 use Rattle.ledger.specs.Ledger.{Entry, enter, strike, told}
 use Rattle.ledger.specs.Gaps.{gaps}
 use Rattle.ledger.specs.Runs.{State, Allowed, answerTo, after, Run, begun, arrived, next}
+use Rattle.ledger.specs.BatchRuns.{afterBatch}
 use Rattle.ledger.specs.Holders.{numberAfter, Ended, Cut, StoredLast, just, pictured, still}
 
 -- ---- how a run is played
@@ -110,6 +113,30 @@ pub table-ledger : afterAll (map call rowCalls) fresh .ledger ≡ entry 4 4 ∷ 
 unfolding startOn allocBy freeOn regrantBy reportOn arenaGate requestGate sound chunksOf walked walkFrom walk meet lowest joined copied written write
     header enter strike
 table-ledger = refl
+
+-- a record that asks this, with an old answer in it
+abbrev unanswered : ℕ → ℕ → ℕ → Request
+unanswered kind b n = record { kind = kind; b = b; n = n; code = 99; block = 99; granted = 99 }
+
+-- a call as a record of a batch, and an unknown kind for a call that no record asks for
+abbrev recordFor : Call → Request
+recordFor (alloc w) = unanswered 1 0 w
+recordFor (free b) = unanswered 2 b 0
+recordFor (realloc b w) = unanswered 3 b w
+recordFor (resize b w) = unanswered 4 b w
+recordFor (relocate b w) = unanswered 5 b w
+recordFor (size b) = unanswered 6 b 0
+recordFor start = unanswered 0 0 0
+recordFor (view b) = unanswered 0 0 0
+recordFor report = unanswered 0 0 0
+recordFor (writePicture text) = unanswered 0 0 0
+recordFor (read text) = unanswered 0 0 0
+
+-- the rows as one batch: the same words, and the same ledger, kept from the records
+pub table-in-one : afterBatch ours (map recordFor rowCalls) fresh ≡ afterAll (map call rowCalls) fresh
+unfolding startOn allocBy freeOn regrantBy reportOn arenaGate requestGate sound chunksOf walked walkFrom walk meet lowest joined copied written write
+    header enter strike wanted batchBy
+table-in-one = refl
 
 -- what the first five rows after the start leave: blocks 10 and 26, and the gaps below, between and above them
 pub fifth-ledger : afterAll (map call (take 5 rowCalls)) fresh .ledger ≡ entry 10 10 ∷ entry 26 6 ∷ []
