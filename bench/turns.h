@@ -6,13 +6,14 @@
 #include "library.h"
 #include "traces.h"
 
-/* What a turn asks for: a block, a request, and the request that brings the block back; a whole trace; an album. */
+/* What a turn asks for: a block, a request, and the one that brings the block back; a trace; an album; requests. */
 struct part {
     uint32_t block;
     uint32_t there;
     uint32_t back;
     const struct trace *trace;
     struct album *album;
+    struct zv_request *requests;
 };
 
 /* What must stand right above the block of a turn. */
