@@ -1,4 +1,4 @@
-"""Holds the calls for C to the model, through C programs over the header, and the example to what it has to print."""
+"""Holds the calls for C to the model, through C programs over the header, and the examples to what they print."""
 
 import os
 
@@ -10,15 +10,18 @@ from support.comparing import run_lines
 
 CALLS = 20000
 
+# The examples, each with the words behind the command that runs it: the first is run without a name.
+EXAMPLES = {"sampling": [], "experiment": ["experiment"]}
 
-def compare_example(root):
-    """Builds and runs the example; gives how many lines it printed."""
-    with open(os.path.join(root, "examples", "sampling.stdout"), "rb") as file:
+
+def compare_example(root, name):
+    """Builds and runs an example; gives how many lines it printed."""
+    with open(os.path.join(root, "examples", name + ".stdout"), "rb") as file:
         expected = file.read()
     try:
-        run_lines(["bash", os.path.join(root, "examples", "run")], b"", expected=expected)
+        run_lines(["bash", os.path.join(root, "examples", "run"), *EXAMPLES[name]], b"", expected=expected)
     except driver.Difference as found:
-        raise driver.Difference(f"the example: {found}") from found
+        raise driver.Difference(f"the example {name}: {found}") from found
     return expected.count(b"\n")
 
 
@@ -28,14 +31,14 @@ def build(root, name):
 
 
 def compare(chosen):
-    """The example, then the cases and the rows of three other drivers; the last line has what these say."""
+    """The examples, then the cases and the rows of three other drivers; the last line has what these say."""
     try:
         chosen.cases, chosen.picture_cases = build(chosen.root, "c_cases"), build(chosen.root, "c_pictures")
     except c_programs.NotHere as told:
         return f"nothing was compared{c_programs.skipped([str(told)])}"
-    lines = compare_example(chosen.root)
+    lines = sum(compare_example(chosen.root, name) for name in EXAMPLES)
     told = [each.compare(chosen) for each in (test_damaged_arenas, test_call_rows, test_pictures)]
-    return "; ".join([*told, f"the example printed its {lines} lines"])
+    return "; ".join([*told, f"{len(EXAMPLES)} examples printed their {lines} lines"])
 
 
 if __name__ == "__main__":

@@ -1,4 +1,4 @@
-"""What spoils the C programs through which the calls for C are compared, or the example."""
+"""What spoils the C programs through which the calls for C are compared, or the examples."""
 
 from .spoiling import replaced
 
@@ -10,9 +10,14 @@ def fault(program, name):
     return replaced(f"tests/support/{program}.c", "#define FAULT NONE", f"#define FAULT {name}")
 
 
-def example(old, new):
-    """The example does something else in one place."""
-    return replaced("examples/sampling.c", old, new)
+def example(name, old, new):
+    """An example does something else in one place."""
+    return replaced(f"examples/{name}.c", old, new)
+
+
+def printed(name, old, new):
+    """What an example has to print is something else in one place."""
+    return replaced(f"examples/{name}.stdout", old, new)
 
 
 # What spoils a copy, and what the driver then has to tell.
@@ -32,7 +37,16 @@ SPOILED = [
     (fault("c_pictures", "BEHIND_TEXT"), "c_pictures: a call changed a byte behind the text"),
     (fault("c_pictures", "BEFORE_ARENA"), "c_pictures: a call changed a byte before the arena"),
     (fault("c_pictures", "BEHIND_ARENA"), "c_pictures: a call changed a byte behind the arena"),
-    (example("buffer->block = answer[ZV_BLOCK];", "buffer->block = 56;"), "the example: the program ended"),
-    (example("900 - 5 * turn", "900 - 6 * turn"), "the example: line 7"),
-    (replaced("examples/sampling.stdout", "block 28", "block 30"), "the example: line 3"),
+    (example("sampling", "buffer->block = answer[ZV_BLOCK];", "buffer->block = 56;"),
+     "the example sampling: the program ended"),
+    (example("sampling", "900 - 5 * turn", "900 - 6 * turn"), "the example sampling: line 7"),
+    (printed("sampling", "block 28", "block 30"), "the example sampling: line 3"),
+    (example("experiment", "{.kind = ZV_FREE, .b = 54}", "{.kind = ZV_SIZE, .b = 54}"),
+     "the example experiment: line 15"),
+    (example("experiment", "zv_batch(arena, WORDS, lab, REQUESTS)", "zv_batch(arena, WORDS, lab, REQUESTS - 1)"),
+     "the example experiment: line 42"),
+    (printed("experiment", "64   64     0     64       64", "64   64     8      0        0"),
+     "the example experiment: line 22"),
+    (replaced("examples/run", "${1:-sampling}", "sampling"), "the example experiment: line 1"),
+    (replaced("examples/run", ":-sampling", ":-experiment"), "the example sampling: line 1"),
 ]
