@@ -1,8 +1,8 @@
 """Holds each drawing of docs/ to its tool, and what is drawn to the library: the morning's picture, and the experiment.
 
 docs/morning.txt has to be what the library writes after line 8 of the morning; docs/BOARD.md has to show it, and both
-drawings. What examples/experiment.stdout answers, which test_c_face.py holds to the program, has to be what the model answers. To make
-docs/morning.txt and the drawings anew: python3 tests/test_drawing.py --count 0.
+drawings. What examples/experiment.stdout answers, which test_c_face.py holds to the program, has to be what the model
+answers. To make docs/morning.txt and the drawings anew: python3 tests/test_drawing.py --count 0.
 """
 
 import os
