@@ -5,7 +5,7 @@ use mathlib.Core.Logic.{_≢_}
 use mathlib.Core.List.{List, [], _∷_}
 use native.Mathlib.Omega.{arith}
 use lib.ListN.{length, getD, take}
-use Rattle.rules.specs.Answers.{Answer, Outcome, blockIn, grantedIn}
+use Rattle.rules.specs.Answers.{Answer, Outcome, blockField, grantedField}
 use Rattle.rules.specs.Batches.{served, Serves}
 use Rattle.rules.specs.declared.Served.{Served}
 use Rattle.answers.specs.Padded.{padded, Settles}
@@ -13,7 +13,7 @@ use Rattle.answers.specs.declared.Numbers.{Numbers}
 use Rattle.batch.specs.InRecords.{servedIn}
 
 -- the answer of a record, with its fields
-abbrev pub servedWith : ℕ → ℕ → ℕ → Served
+abbrev servedWith : ℕ → ℕ → ℕ → Served
 servedWith code block granted = record { code = code; block = block; granted = granted }
 
 -- ---- by the number of fields
@@ -21,7 +21,7 @@ servedWith code block granted = record { code = code; block = block; granted = g
 pub no-field : (x : Numbers) → x .count ≡ 0 → servedWith (x .code) 0 0 ≡ servedIn x
 no-field x e = rw e refl
 
-one-field : (code : ℕ) (fields : List ℕ) → servedWith code 0 (getD fields 0 0) ≡ servedWith code (blockIn (take 1 fields)) (grantedIn (take 1 fields))
+one-field : (code : ℕ) (fields : List ℕ) → servedWith code 0 (getD fields 0 0) ≡ servedWith code (blockField (take 1 fields)) (grantedField (take 1 fields))
 one-field code [] = refl
 one-field code (f ∷ fs) = refl
 
@@ -29,7 +29,7 @@ pub single : (x : Numbers) → x .count ≡ 1 → servedWith (x .code) 0 (getD (
 single x e = rw e (one-field (x .code) (x .fields))
 
 two-fields : (code more : ℕ) (fields : List ℕ) → length fields ≡ 4
-    → let part = take (suc (suc more)) fields in servedWith code (getD fields 0 0) (getD fields 1 0) ≡ servedWith code (blockIn part) (grantedIn part)
+    → let part = take (suc (suc more)) fields in servedWith code (getD fields 0 0) (getD fields 1 0) ≡ servedWith code (blockField part) (grantedField part)
 two-fields code more [] l = absurd (omega arith)
 two-fields code more (f ∷ []) l = absurd (omega arith)
 two-fields code more (f ∷ g ∷ fs) l = refl

@@ -7,7 +7,7 @@ use native.Mathlib.Nat.{suc-add}
 use lib.ListN.{length, getD, drop, length-append}
 use lib.Seq.{sets, getD-append-seam, getD-append-add}
 use Rattle.rules.specs.Libraries.{ours}
-use Rattle.rules.specs.Batches.{madeSingly, wanted, wantedIn, batchOn, Serves}
+use Rattle.rules.specs.Batches.{madeSingly, wanted, wantedIn, Batch, batchOn, Serves}
 use Rattle.rules.specs.declared.Request.{Request}
 use Rattle.rules.specs.declared.Served.{Served}
 use Rattle.batch.specs.SixWords.{recordsIn, leftOver, spelled, FillsWords}
@@ -15,18 +15,18 @@ use Rattle.batch.proofs.BatchTurns.{behind, answered, turn-goes, all-fi
 
 -- ---- records and their words
 
-pub spelled-both : (rs ss : List Request) → spelled (rs ++ ss) ≡ spelled rs ++ spelled ss
+spelled-both : (rs ss : List Request) → spelled (rs ++ ss) ≡ spelled rs ++ spelled ss
 spelled-both [] ss = refl
 spelled-both (r ∷ rs) ss =
     ap (λ (l : List ℕ). r .kind ∷ r .b ∷ r .n ∷ r .code ∷ r .block ∷ r .granted ∷ l) (spelled-both rs ss)
 
 -- six words or more begin with a record
-pub record Begun (l : List ℕ) : Type 0 where
+record Begun (l : List ℕ) : Type 0 where
   pub first : Request
   pub rest : List ℕ
   pub is : l ≡ spelled (first ∷ []) ++ rest
 
-pub begun : (l : List ℕ) → 6 ≤ length l → Begun l
+begun : (l : List ℕ) → 6 ≤ length l → Begun l
 begun (k ∷ (b ∷ (n ∷ (c ∷ (block ∷ (g ∷ rest)))))) h =
     record { first = record { kind = k; b = b; n = n; code = c; block = block; granted = g }; rest = rest; is = refl }
 begun (k ∷ (b ∷ (n ∷ (c ∷ (block ∷ []))))) h = absurd (omega arith)
@@ -37,7 +37,7 @@ begun (k ∷ []) h = absurd (omega arith)
 begun [] h = absurd (omega arith)
 
 -- fewer are left over
-pub too-few : (l : List ℕ) → length l < 6 → (recordsIn l ≡ []) × (leftOver l ≡ l)
+too-few : (l : List ℕ) → length l < 6 → (recordsIn l ≡ []) × (leftOver l ≡ l)
 unfolding recordsIn leftOver
 too-few (k ∷ (b ∷ (n ∷ (c ∷ (block ∷ (g ∷ rest)))))) h = absurd (omega arith)
 too-few (k ∷ (b ∷ (n ∷ (c ∷ (block ∷ []))))) h = (refl, refl)
@@ -78,7 +78,7 @@ asks-at p r rest =
 
 module _ {ys xs ws rs : List ℕ} {at : ℕ} (g : Spelling ys xs at ws rs) where
   -- what is behind the place has the words that are there
-  pub tail-length : length (g .tail) ≡ length rs - at
+  tail-length : length (g .tail) ≡ length rs - at
   tail-length = omega (arith, g .place, ap length (g .words-are), length-append (spelled (g .before)) (g .tail))
 
   -- the first record behind the place is filled
@@ -126,3 +126,8 @@ module _ {ys xs ws rs : List ℕ} {at : ℕ} (g : Spelling ys xs at ws rs) where
             ∙ ap (λ (l : List Request). spelled l ++ leftOver xs) (sym (append-nil (g .before)) ∙ all .answers);
         leaves = all .leaves;
       }
+
+-- the promise leaves no choice
+pub words-once : {batch : Batch} {before after after′ words words′ : List ℕ} → FillsWords batch before after words
+    → FillsWords batch before after′ words′ → (after ≡ after′) × (words ≡ words′)
+words-once g g′ = (g .answers ∙ sym (g′ .answers), g .leaves ∙ sym (g′ .leaves))

@@ -1,5 +1,5 @@
-// Requests of a batch: each is a call by its kind, and its answer goes into the request's own record. The loop over a
-// lent list of records is `zv_batch`, for C; nothing that is proved can call a function that is lent records.
+// A request of a batch: a call by its kind, and its answer as the request's record has it. The loop over a lent list of
+// records is `zv_batch`, for C; nothing that is proved can call a function that is lent records.
 pub mod words;
 
 use answers::Numbers;
@@ -8,7 +8,7 @@ pub use rules::Request;
 pub use rules::Served;
 ghost use mathlib.Core.Path.{_≡_};
 ghost use Rattle.rules.specs.Libraries.{ours};
-ghost use Rattle.rules.specs.Batches.{wanted, wantedIn, madeSingly, Serves, FillsOne};
+ghost use Rattle.rules.specs.Batches.{wanted, madeSingly, Serves};
 ghost use Rattle.answers.specs.Padded.{Settles};
 ghost use Rattle.batch.specs.InRecords.{servedIn};
 
@@ -27,7 +27,7 @@ fn call(a: &mut [u32], kind: u32, b: u32, n: u32) -> Numbers
     }
 }
 
-// The block and the granted words of an answer, which stand last among its fields; 0 for what it has not.
+// The block and the granted words of an answer, 0 for what it has not: it has no fields, or granted words, or both.
 fn in_record(numbers: Numbers) -> Served
     ensures { λ r. ⌜ r ≡ servedIn numbers ⌝ }
 {
@@ -59,19 +59,4 @@ pub fn serve(a: &mut [u32], kind: u32, b: u32, n: u32) -> Served
     ensures { λ r. ⌜ Serves (madeSingly ours (wanted kind b n) (now (a .entry))) r (now (a .exit)) ⌝ }
 {
     in_record(call(a, kind, b, n))
-}
-
-// Fills in the answer of one record; what it asks stays.
-pub fn fill(a: &mut [u32], request: Request) -> Request
-    ensures { λ r. ⌜ FillsOne (madeSingly ours (wantedIn request) (now (a .entry))) request r (now (a .exit)) ⌝ }
-{
-    let served = serve(a, request.kind, request.b, request.n);
-    Request {
-        kind: request.kind,
-        b: request.b,
-        n: request.n,
-        code: served.code,
-        block: served.block,
-        granted: served.granted,
-    }
 }

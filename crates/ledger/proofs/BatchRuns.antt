@@ -4,7 +4,7 @@ use mathlib.Core.Path.{_≡_, refl, sym, ap, subst, _∙_}
 use mathlib.Core.List.{List, [], _∷_}
 use Rattle.rules.specs.Answers.{Answer}
 use Rattle.rules.specs.Libraries.{Library}
-use Rattle.rules.specs.Batches.{Wanted, known, unknown, madeSingly, served, wantedIn, filled, Batch}
+use Rattle.rules.specs.Batches.{Wanted, aCall, unknown, madeSingly, served, wantedIn, filled, Batch}
 use Rattle.rules.specs.declared.Request.{Request}
 use Rattle.rules.proofs.Batches.{batch-none, batch-more}
 use Rattle.ledger.specs.Events.{call}
@@ -27,7 +27,7 @@ module _ (library : Library) where
   one-filled : (r : Request) (w : Wanted) (s : State)
       → let outcome = madeSingly library w (s .words) in
       record { words = outcome .words; ledger = ledgerFor w (recordAnswer (filled r (served (outcome .answer)))) (s .ledger) } ≡ afterOne library w s
-  one-filled r (known c) s =
+  one-filled r (aCall c) s =
       let outcome = library c (s .words) in
       ap (λ (ledger : Ledger). record { words = outcome .words; ledger = ifDone (outcome .answer) ledger (s .ledger) })
       (record-notes (effect (call c)) r (outcome .answer) (s .ledger))
@@ -47,7 +47,7 @@ module _ (library : Library) where
 
   -- requests that are made singly are events of the run
   one-runs : {n : ℕ} {s : State} → Run library n s → (w : Wanted) → Run library n (afterOne library w s)
-  one-runs run (known c) = next run (call c) tt
+  one-runs run (aCall c) = next run (call c) tt
   one-runs run unknown = run
 
   singly-runs : {n : ℕ} {s : State} → Run library n s → (records : List Request) → Run library n (afterSingly library records s)

@@ -9,8 +9,9 @@ use native.Mathlib.Omega.{arith}
 use lib.ListN.{set, replicate, take, drop}
 use Rattle.layout.specs.Chunks.{free as freeChunk, live as liveChunk, header, write, written}
 use Rattle.layout.specs.Walk.{meet, walk, walkFrom, walked, sound, chunksOf}
-use Rattle.layout.specs.Reasons.{arenaGate, requestGate}
-use Rattle.rules.specs.Answers.{Answer, success}
+use Rattle.layout.specs.Reasons.{number, arenaGate, requestGate}
+use Rattle.layout.specs.declared.Reason.the-variants.{Frame}
+use Rattle.rules.specs.Answers.{Answer, success, blockField, grantedField}
 use Rattle.rules.specs.Spots.{lowest}
 use Rattle.rules.specs.Rules.{joined, copied}
 use Rattle.rules.specs.Pictures.{pictureOf, framesFrom, line, wordsIn, standingFrom, same, said}
@@ -18,13 +19,13 @@ use Rattle.digits.specs.Digits.{upper, worth, glyph}
 use Rattle.rules.specs.Calls.{startOn, allocBy, freeOn, regrantBy, reportOn, writeOn, readOn}
 use Rattle.rules.specs.Libraries.{Call, start, alloc, free, resize, relocate, realloc, size, view, report, write as writePicture, read}
 use Rattle.rules.specs.Libraries.{ours}
-use Rattle.rules.specs.Batches.{wanted, batchBy}
+use Rattle.rules.specs.Batches.{Wanted, aCall, unknown, wanted, wantedIn, batchBy}
 use Rattle.rules.specs.declared.Request.{Request}
 use Rattle.ledger.specs.Events.{Event, call, store}
 use Rattle.ledger.specs.Ledger.{Entry, enter, strike, told}
 use Rattle.ledger.specs.Gaps.{gaps}
 use Rattle.ledger.specs.Runs.{State, Allowed, answerTo, after, Run, begun, arrived, next}
-use Rattle.ledger.specs.BatchRuns.{afterBatch}
+use Rattle.ledger.specs.BatchRuns.{ledgerFrom}
 use Rattle.ledger.specs.Holders.{numberAfter, Ended, Cut, StoredLast, just, pictured, still}
 
 -- ---- how a run is played
@@ -132,11 +133,26 @@ recordFor report = unanswered 0 0 0
 recordFor (writePicture text) = unanswered 0 0 0
 recordFor (read text) = unanswered 0 0 0
 
--- the rows as one batch: the same words, and the same ledger, kept from the records
-pub table-in-one : afterBatch ours (map recordFor rowCalls) fresh ≡ afterAll (map call rowCalls) fresh
+-- the answer in a record: code, block, granted words
+abbrev answeredIn : Request → List ℕ
+answeredIn r = r .code ∷ r .block ∷ r .granted ∷ []
+
+-- an answer as the record of such a request has it
+abbrev answeredAs : Wanted → Answer → List ℕ
+answeredAs (aCall c) answer = answer .code ∷ blockField (answer .values) ∷ grantedField (answer .values) ∷ []
+answeredAs unknown answer = number Frame ∷ 0 ∷ 0 ∷ []
+
+-- the rows as one batch: each record has its row's answer, but that a report, which no record asks for, gets 7
+pub table-records : map answeredIn (batchBy ours (fresh .words) (map recordFor rowCalls) .records) ≡ map (λ (r : Call × Answer). answeredAs (wantedIn (recordFor (r .0))) (r .1)) rows
+unfolding startOn allocBy freeOn regrantBy reportOn arenaGate requestGate sound chunksOf walked walkFrom walk meet lowest joined copied written write
+    header wanted batchBy
+table-records = refl
+
+-- and the ledger that the records tell is that of the rows
+pub records-ledger : ledgerFrom (batchBy ours (fresh .words) (map recordFor rowCalls) .records) [] ≡ afterAll (map call rowCalls) fresh .ledger
 unfolding startOn allocBy freeOn regrantBy reportOn arenaGate requestGate sound chunksOf walked walkFrom walk meet lowest joined copied written write
     header enter strike wanted batchBy
-table-in-one = refl
+records-ledger = refl
 
 -- what the first five rows after the start leave: blocks 10 and 26, and the gaps below, between and above them
 pub fifth-ledger : afterAll (map call (take 5 rowCalls)) fresh .ledger ≡ entry 10 10 ∷ entry 26 6 ∷ []

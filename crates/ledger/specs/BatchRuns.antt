@@ -2,7 +2,7 @@
 use mathlib.Core.List.{List, [], _∷_}
 use Rattle.rules.specs.Answers.{Answer}
 use Rattle.rules.specs.Libraries.{Library}
-use Rattle.rules.specs.Batches.{Wanted, known, unknown, wantedIn, batchBy}
+use Rattle.rules.specs.Batches.{Wanted, aCall, unknown, wantedIn, batchBy}
 use Rattle.rules.specs.declared.Request.{Request}
 use Rattle.ledger.specs.Events.{call}
 use Rattle.ledger.specs.Ledger.{Ledger, ledgerAfter}
@@ -16,7 +16,7 @@ recordAnswer r = record { code = r .code; values = r .block ∷ r .granted ∷ [
 
 -- what a request that got this answer makes of the ledger; one of an unknown kind is no call
 abbrev pub ledgerFor : Wanted → Answer → Ledger → Ledger
-ledgerFor (known c) answer ledger = ledgerAfter (call c) answer ledger
+ledgerFor (aCall c) answer ledger = ledgerAfter (call c) answer ledger
 ledgerFor unknown answer ledger = ledger
 
 -- the ledger after the records of a batch
@@ -35,7 +35,7 @@ module _ (library : Library) where
 
   -- the state after one request; one of an unknown kind changes nothing
   abbrev pub afterOne : Wanted → State → State
-  afterOne (known c) s = after library (call c) s
+  afterOne (aCall c) s = after library (call c) s
   afterOne unknown s = s
 
   -- the state after the same requests, each made by its own call

@@ -49,7 +49,8 @@ module _ (library : Library) where
   Receives =
       (a text : List ℕ) → Done (library (read text) a .answer) ↔ ((ws : List ℕ) × Says text ws × (length ws ≡ length a) × (sound ws ≡ true))
 
-  -- item 5: a batch "must equal the same requests made singly, in order, also for demand 3's ledger"
+  -- item 5: a batch "must equal the same requests made singly, in order, also for demand 3's ledger"; it does so by any
+  -- library, since what is judged here is the batch
   abbrev pub SameAsSingly : Type 0
   SameAsSingly = (records : List Request) (s : State) → afterBatch library records s ≡ afterSingly library records s
 
@@ -97,8 +98,8 @@ module _ (library : Library) where
   Sums = (n : ℕ) (s : State) → Run library n s → freeWordsIn (library report (s .words) .answer) + heldWords (s .ledger) ≡ n - controlWords
 
   -- "A lawful alloc is refused for want of room exactly when every gap left by ledger blocks and their headers is
-  -- shorter than its need;" of the reasons before 6, neither 1 nor 2 applies in a run, nor does 3 to a block of the
-  -- ledger
+  -- shorter than its need;" it is lawful where no reason before 6 applies: 4 and 5 do not by `LawfulRequest`, and in a
+  -- run 1 and 2 never do, nor 3 to a block of the ledger (`Known`)
   abbrev pub RoomForAlloc : (ℕ → Call) → Type 0
   RoomForAlloc allocs =
       (n : ℕ) (s : State) → Run library n s → (w : ℕ) → LawfulRequest n w

@@ -9,7 +9,7 @@ use lib.Dec.{leb, eqb}
 use Rattle.layout.specs.Numbers.{firstChunk, headerWords}
 use Rattle.layout.specs.Chunks.{Chunk, free as freeChunk, live}
 use Rattle.layout.specs.Walk.{chunksOf}
-use Rattle.rules.specs.Answers.{Answer, blockIn, grantedIn}
+use Rattle.rules.specs.Answers.{Answer, blockField, grantedField}
 use Rattle.rules.specs.Pictures.{Said, bad, good, said}
 use Rattle.rules.specs.Libraries.{start, alloc, free, resize, relocate, realloc, size, view, report, write, read}
 use Rattle.ledger.specs.Events.{Event, call, store}
@@ -78,7 +78,7 @@ effect (store b i v) = spares
 
 -- the block and the granted words that an answer tells (0 where it has no such field)
 abbrev pub told : Answer → Entry
-told answer = record { block = blockIn (answer .values); granted = grantedIn (answer .values) }
+told answer = record { block = blockField (answer .values); granted = grantedField (answer .values) }
 
 -- what an event that is done makes of the ledger
 abbrev pub noted : Effect → Answer → Ledger → Ledger

@@ -12,12 +12,12 @@ use Rattle.layout.specs.Walk.{sound}
 use Rattle.layout.specs.Reasons.{number}
 use Rattle.layout.specs.declared.Reason.the-variants.{Frame}
 use Rattle.layout.proofs.Reasons.{number-positive, number-injective}
-use Rattle.rules.specs.Answers.{Outcome, blockIn, grantedIn, noCall}
+use Rattle.rules.specs.Answers.{Outcome, blockField, grantedField, noCall}
 use Rattle.rules.specs.Behaves.{Behaves}
-use Rattle.rules.specs.Libraries.{start, alloc, free, resize, relocate, realloc, size, view, report, write, read, Library, ours}
-use Rattle.rules.specs.Causes.{WantedRefused, wantedFields}
-use Rattle.rules.specs.Batches.{Wanted, known, unknown, wanted, madeSingly, served, wantedIn, filled, Batch, batchBy, batchOn}
-use Rattle.rules.specs.Batches.{Serves, FillsOne, Fills}
+use Rattle.rules.specs.Libraries.{Call, start, alloc, free, resize, relocate, realloc, size, view, report, write, read, Library, ours}
+use Rattle.rules.specs.Causes.{CallRefused, callFields, WantedRefused, wantedFields}
+use Rattle.rules.specs.Batches.{Wanted, aCall, unknown, wanted, madeSingly, served, wantedIn, filled, Batch, batchBy, batchOn}
+use Rattle.rules.specs.Batches.{Serves, Fills}
 use Rattle.rules.specs.declared.Request.{Request}
 use Rattle.rules.specs.declared.Served.{Served}
 use Rattle.rules.proofs.Calls.{start-behaves, alloc-behaves, free-behaves, resize-behaves, relocate-behaves, realloc-behaves, size-behaves}
@@ -30,11 +30,6 @@ pub unknown-kind : (kind b n : ℕ) → kind ≢ 1 → kind ≢ 2 → kind ≢ 3
 unfolding wanted
 unknown-kind kind b n n1 n2 n3 n4 n5 n6 =
     simp (ne-eqb kind 1 n1, ne-eqb kind 2 n2, ne-eqb kind 3 n3, ne-eqb kind 4 n4, ne-eqb kind 5 n5, ne-eqb kind 6 n6)
-
--- whoever serves a request, and fills in what was served, has filled its record
-pub served-fills : {outcome : Outcome} {to : Served} {words : List ℕ} (request : Request) → Serves outcome to words
-    → FillsOne outcome request (filled request to) words
-served-fills request g = record { answers = ap (filled request) (g .answers); leaves = g .leaves }
 
 -- what a record asks, by its three numbers
 abbrev pub asking : Request → ℕ × ℕ × ℕ
@@ -115,19 +110,23 @@ module _ (a : List ℕ) where
         still-sound = λ e. e;
       }
 
+  -- every call behaves
+  pub call-behaves : (c : Call) → Behaves (callFields c) a (CallRefused c a) (ours c a)
+  call-behaves start = start-behaves a
+  call-behaves (alloc w) = alloc-behaves a w
+  call-behaves (free b) = free-behaves a b
+  call-behaves (resize b w) = resize-behaves a b w
+  call-behaves (relocate b w) = relocate-behaves a b w
+  call-behaves (realloc b w) = realloc-behaves a b w
+  call-behaves (size b) = size-behaves a b
+  call-behaves (view b) = view-behaves b
+  call-behaves report = report-behaves a
+  call-behaves (write text) = write-behaves a text
+  call-behaves (read text) = read-behaves a text
+
   -- a request behaves as its call does; one of an unknown kind is refused with Frame, whatever the words are
   pub wanted-behaves : (w : Wanted) → Behaves (wantedFields w) a (WantedRefused w a) (madeSingly ours w a)
-  wanted-behaves (known start) = start-behaves a
-  wanted-behaves (known (alloc w)) = alloc-behaves a w
-  wanted-behaves (known (free b)) = free-behaves a b
-  wanted-behaves (known (resize b w)) = resize-behaves a b w
-  wanted-behaves (known (relocate b w)) = relocate-behaves a b w
-  wanted-behaves (known (realloc b w)) = realloc-behaves a b w
-  wanted-behaves (known (size b)) = size-behaves a b
-  wanted-behaves (known (view b)) = view-behaves b
-  wanted-behaves (known report) = report-behaves a
-  wanted-behaves (known (write text)) = write-behaves a text
-  wanted-behaves (known (read text)) = read-behaves a text
+  wanted-behaves (aCall c) = call-behaves c
   wanted-behaves unknown = unknown-behaves
 
   -- what a refused request leaves: the words as they were, and 0 in the record for block and granted words
@@ -136,14 +135,14 @@ module _ (a : List ℕ) where
       outcome .answer .code ≢ 0 → (outcome .words ≡ a) × (served (outcome .answer) .block ≡ 0) × (served (outcome .answer) .granted ≡ 0)
   refused-request w n =
       let g = wanted-behaves w in
-      (g .unchanged n, ap blockIn (g .zeros n) ∙ no-block (wantedFields w), ap grantedIn (g .zeros n) ∙ none-granted (wantedFields w))
+      (g .unchanged n, ap blockField (g .zeros n) ∙ no-block (wantedFields w), ap grantedField (g .zeros n) ∙ none-granted (wantedFields w))
     where
-      no-block : (fields : ℕ) → blockIn (replicate fields 0) ≡ 0
+      no-block : (fields : ℕ) → blockField (replicate fields 0) ≡ 0
       no-block zero = refl
       no-block (suc zero) = refl
       no-block (suc (suc fields)) = refl
 
-      none-granted : (fields : ℕ) → grantedIn (replicate fields 0) ≡ 0
+      none-granted : (fields : ℕ) → grantedField (replicate fields 0) ≡ 0
       none-granted zero = refl
       none-granted (suc zero) = refl
       none-granted (suc (suc fields)) = refl
@@ -155,10 +154,10 @@ only-unknown kind b n a = go (eqb kind 1) (eqb kind 2) (eqb kind 3) (eqb kind 4)
   where
     go : (alloc? free? realloc? resize? relocate? size? : Bool)
         → let w =
-        cond alloc? (known (alloc n))
-        (cond free? (known (free b))
-        (cond realloc? (known (realloc b n))
-        (cond resize? (known (resize b n)) (cond relocate? (known (relocate b n)) (cond size? (known (size b)) unknown)))))
+        cond alloc? (aCall (alloc n))
+        (cond free? (aCall (free b))
+        (cond realloc? (aCall (realloc b n))
+        (cond resize? (aCall (resize b n)) (cond relocate? (aCall (relocate b n)) (cond size? (aCall (size b)) unknown)))))
         in
         madeSingly ours w a .answer .code ≡ number Frame → w ≡ unknown
     go true _ _ _ _ _ e = absurd (alloc-behaves a n .refused Frame .0 e)
@@ -169,13 +168,26 @@ only-unknown kind b n a = go (eqb kind 1) (eqb kind 2) (eqb kind 3) (eqb kind 4)
     go false false false false false true e = absurd (size-behaves a b .refused Frame .0 e)
     go false false false false false false e = refl
 
+-- a record that is refused has its code, and 0 for block and granted words; the others are answered as if it were not
+-- there
+pub refused-record : (a : List ℕ) (r : Request) (rs : List Request)
+    → let code = madeSingly ours (wantedIn r) a .answer .code in
+    let rest = batchOn a rs in
+    code ≢ 0
+    → batchOn a (r ∷ rs) ≡ record { records = filled r (record { code = code; block = 0; granted = 0 }) ∷ rest .records; words = rest .words }
+refused-record a r rs n =
+    let left = refused-request a (wantedIn r) n in
+    batch-more ours a r rs ∙ rw (left .0, left .1, left .2) refl
+
 -- a batch keeps the number of words, and a sound arena sound
 pub batch-length : (a : List ℕ) (rs : List Request) → length (batchOn a rs .words) ≡ length a
-unfolding batchBy
-batch-length a [] = refl
-batch-length a (r ∷ rs) = batch-length (madeSingly ours (wantedIn r) a .words) rs ∙ wanted-behaves a (wantedIn r) .same-length
+batch-length a [] = ap (λ (batch : Batch). length (batch .words)) (batch-none ours a)
+batch-length a (r ∷ rs) =
+    ap (λ (batch : Batch). length (batch .words)) (batch-more ours a r rs)
+    ∙ batch-length (madeSingly ours (wantedIn r) a .words) rs
+    ∙ wanted-behaves a (wantedIn r) .same-length
 
 pub batch-sound : (a : List ℕ) (rs : List Request) → sound a ≡ true → sound (batchOn a rs .words) ≡ true
-unfolding batchBy
-batch-sound a [] s = s
-batch-sound a (r ∷ rs) s = batch-sound (madeSingly ours (wantedIn r) a .words) rs (wanted-behaves a (wantedIn r) .still-sound s)
+batch-sound a [] s = rw (batch-none ours a) s
+batch-sound a (r ∷ rs) s =
+    rw (batch-more ours a r rs) (batch-sound (madeSingly ours (wantedIn r) a .words) rs (wanted-behaves a (wantedIn r) .still-sound s))

@@ -6,7 +6,7 @@ use Prim.Native.Nat.{ℕ}
 use native.Mathlib.Omega.{arith}
 use Rattle.layout.specs.Numbers.{need}
 use Rattle.layout.proofs.Reasons.{number-positive}
-use Rattle.rules.specs.Answers.{Outcome, blockIn}
+use Rattle.rules.specs.Answers.{Outcome, blockField}
 use Rattle.rules.specs.Calls.{resizeOn, relocateOn}
 use Rattle.rules.specs.Causes.{ResizeRefused, RelocateRefused}
 use Rattle.rules.proofs.CallCases.{Case, refuses, does}
@@ -16,20 +16,20 @@ use Rattle.rules.proofs.OldBlock.{order, old-apart}
 use Rattle.rules.proofs.RegrantCases.{Resizes, resizes, Relocates, moves, resize-case, relocate-case}
 
 -- a resize that is done answers the number that it was given
-pub resize-stays : (a : List ℕ) (b n : ℕ) → resizeOn a b n .answer .code ≡ 0 → blockIn (resizeOn a b n .answer .values) ≡ b
+pub resize-stays : (a : List ℕ) (b n : ℕ) → resizeOn a b n .answer .code ≡ 0 → blockField (resizeOn a b n .answer .values) ≡ b
 resize-stays a b n = go (resize-case a b n)
   where
     go : {outcome : Outcome} → Case 2 a (ResizeRefused a b n) (Resizes a b n) outcome → outcome .answer .code ≡ 0
-        → blockIn (outcome .answer .values) ≡ b
+        → blockField (outcome .answer .values) ≡ b
     go (refuses why r) code = absurd (omega (arith, number-positive why))
     go (does (resizes e r pre s post is keep k)) code = refl
 
 -- a move that is done answers another number than it was given
-pub relocate-moves : (a : List ℕ) (b n : ℕ) → relocateOn a b n .answer .code ≡ 0 → blockIn (relocateOn a b n .answer .values) ≢ b
+pub relocate-moves : (a : List ℕ) (b n : ℕ) → relocateOn a b n .answer .code ≡ 0 → blockField (relocateOn a b n .answer .values) ≢ b
 relocate-moves a b n = go (relocate-case a b n)
   where
     go : {outcome : Outcome} → Case 2 a (RelocateRefused a b n) (Relocates a b n) outcome → outcome .answer .code ≡ 0
-        → blockIn (outcome .answer .values) ≢ b
+        → blockField (outcome .answer .values) ≢ b
     go (refuses why r) code q = omega (arith, number-positive why)
     go (does (moves e r pre s post is before g after (same, enough) block at-is ks _ count shorter)) code q =
         let z = block-sizes a b pre s post e is .1 in

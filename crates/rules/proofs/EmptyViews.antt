@@ -12,7 +12,7 @@ use Rattle.layout.specs.Walk.{sound}
 use Rattle.layout.proofs.Holds.{Lawful, total-append}
 use Rattle.layout.proofs.Reasons.{number-positive}
 use Rattle.layout.proofs.Round.{sound-chunks}
-use Rattle.rules.specs.Answers.{Outcome, grantedIn}
+use Rattle.rules.specs.Answers.{Outcome, grantedField}
 use Rattle.rules.specs.Calls.{sizeOn, viewOn}
 use Rattle.rules.specs.Causes.{BlockRefused}
 use Rattle.rules.proofs.Searches.{BlockAt, block-sizes}
@@ -33,6 +33,6 @@ unfolding viewOn
 view-empty a b = go (size-case a b)
   where
     go : {outcome : Outcome} → Case 1 a (BlockRefused a b) (Measures a b) outcome
-        → (take (grantedIn (outcome .answer .values)) (drop b a) ≡ []) ↔ (outcome .answer .code ≢ 0)
+        → (take (grantedField (outcome .answer .values)) (drop b a) ≡ []) ↔ (outcome .answer .code ≢ 0)
     go (refuses why r) = (λ empty code. omega (arith, number-positive why), λ code. refl)
     go (does (measures e pre s post is)) = (λ empty code. block-words a b pre s post e is empty, λ code. absurd (code refl))

@@ -21,17 +21,17 @@ success vs = record { code = 0; values = vs }
 abbrev pub refusal : ℕ → Reason → Answer
 refusal fields why = record { code = number why; values = replicate fields 0 }
 
--- the block and the granted words among an answer's fields, 0 where there is none: granted words stand last, a block
--- before them
-abbrev pub blockIn : List ℕ → ℕ
-blockIn [] = 0
-blockIn (granted ∷ []) = 0
-blockIn (block ∷ granted ∷ rest) = block
+-- the block and the granted words that an answer's fields tell, 0 for what they do not: there are no fields, or granted
+-- words alone, or a block and its granted words
+abbrev pub blockField : List ℕ → ℕ
+blockField [] = 0
+blockField (granted ∷ []) = 0
+blockField (block ∷ granted ∷ rest) = block
 
-abbrev pub grantedIn : List ℕ → ℕ
-grantedIn [] = 0
-grantedIn (granted ∷ []) = granted
-grantedIn (block ∷ granted ∷ rest) = granted
+abbrev pub grantedField : List ℕ → ℕ
+grantedField [] = 0
+grantedField (granted ∷ []) = granted
+grantedField (block ∷ granted ∷ rest) = granted
 
 -- the answer, and the words of the arena afterwards
 pub record Outcome : Type 0 where

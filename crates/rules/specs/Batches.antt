@@ -4,37 +4,37 @@ use mathlib.Core.Path.{_≡_}
 use mathlib.Core.Bool.{cond}
 use mathlib.Core.List.{List, [], _∷_}
 use lib.Dec.{eqb}
-use Rattle.rules.specs.Answers.{Answer, Outcome, blockIn, grantedIn, noCall}
+use Rattle.rules.specs.Answers.{Answer, Outcome, blockField, grantedField, noCall}
 use Rattle.rules.specs.Libraries.{Call, alloc, free, realloc, resize, relocate, size, Library, ours}
 use Rattle.rules.specs.declared.Request.{Request}
 use Rattle.rules.specs.declared.Served.{Served}
 
 -- ---- one request
 
--- a call, or nothing that is known
+-- what a record can ask for: a call, or nothing that is known
 pub data Wanted : Type 0 where
-  known : Call → Wanted
+  aCall : Call → Wanted
   unknown : Wanted
 
 -- what a kind and its two numbers ask for; a number that the call does not take is not looked at
 unfoldable pub wanted : (kind b n : ℕ) → Wanted
 wanted kind b n =
-    cond (eqb kind 1) (known (alloc n))
-    (cond (eqb kind 2) (known (free b))
-    (cond (eqb kind 3) (known (realloc b n))
-    (cond (eqb kind 4) (known (resize b n))
-    (cond (eqb kind 5) (known (relocate b n))
-    (cond (eqb kind 6) (known (size b))
+    cond (eqb kind 1) (aCall (alloc n))
+    (cond (eqb kind 2) (aCall (free b))
+    (cond (eqb kind 3) (aCall (realloc b n))
+    (cond (eqb kind 4) (aCall (resize b n))
+    (cond (eqb kind 5) (aCall (relocate b n))
+    (cond (eqb kind 6) (aCall (size b))
     unknown)))))
 
 -- what comes of it on the words `a`: that of the call, made singly; an unknown kind is refused before all else
 abbrev pub madeSingly : Library → Wanted → List ℕ → Outcome
-madeSingly library (known c) a = library c a
+madeSingly library (aCall c) a = library c a
 madeSingly library unknown a = noCall a
 
 -- an answer, as a record has it
 abbrev pub served : Answer → Served
-served answer = record { code = answer .code; block = blockIn (answer .values); granted = grantedIn (answer .values) }
+served answer = record { code = answer .code; block = blockField (answer .values); granted = grantedField (answer .values) }
 
 -- what a record asks for
 abbrev pub wantedIn : Request → Wanted
@@ -67,11 +67,6 @@ batchOn a rs = batchBy ours a rs
 -- one request: its answer, and the words that it leaves
 pub record Serves (outcome : Outcome) (to : Served) (words : List ℕ) : Type 0 where
   pub answers : to ≡ served (outcome .answer)
-  pub leaves : words ≡ outcome .words
-
--- one record: what it asks stays, its answer is filled in
-pub record FillsOne (outcome : Outcome) (before after : Request) (words : List ℕ) : Type 0 where
-  pub answers : after ≡ filled before (served (outcome .answer))
   pub leaves : words ≡ outcome .words
 
 -- a batch: the records, and the words that it leaves

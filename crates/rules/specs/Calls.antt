@@ -11,7 +11,7 @@ use Rattle.layout.specs.Walk.{chunksOf}
 use Rattle.layout.specs.Reasons.{number, arenaGate, requestGate}
 use Rattle.layout.specs.declared.Reason.{Reason}
 use Rattle.layout.specs.declared.Reason.the-variants.{Length, NotABlock, NoRoom, Frame, WouldMove, TextRoom}
-use Rattle.rules.specs.Answers.{grantedIn, Outcome, Result, refused, done, settle, pass}
+use Rattle.rules.specs.Answers.{grantedField, Outcome, Result, refused, done, settle, pass}
 use Rattle.rules.specs.Spots.{Spot, nowhere, at, Policy, firstFit, held}
 use Rattle.rules.specs.Rules.{Way, shut, grants, grantFrom, grantedAt, allotted, Regrant, regranted, resized, relocated, released, freeWords}
 use Rattle.rules.specs.Rules.{widest, liveBlocks, freeChunks}
@@ -83,7 +83,7 @@ sizeOn a b =
 
 -- the part of the arena that is the block: as many words from `b` on as size answers, none where size is refused
 unfoldable pub viewOn : List ℕ → ℕ → List ℕ
-viewOn a b = take (grantedIn (sizeOn a b .answer .values)) (drop b a)
+viewOn a b = take (grantedField (sizeOn a b .answer .values)) (drop b a)
 
 -- free words, the largest request that would be granted now, live blocks, free chunks
 unfoldable pub reportOn : List ℕ → Outcome

@@ -6,18 +6,18 @@ use mathlib.Core.List.{List, _∷_}
 use Prim.Native.Nat.{ℕ, _+_, _≤_, _<_}
 use lib.ListN.{length}
 use Rattle.layout.specs.Numbers.{lawful, greatestRequest, need}
-use Rattle.layout.specs.Chunks.{Chunk, free, live}
+use Rattle.layout.specs.Chunks.{Chunk, free as freeChunk, live}
 use Rattle.layout.specs.Walk.{sound, chunksOf}
 use Rattle.layout.specs.declared.Reason.{Reason}
 use Rattle.layout.specs.declared.Reason.the-variants.{Length, Damaged, NotABlock, Zero, TooLarge, NoRoom, Frame, WouldMove, TextRoom}
 use Rattle.rules.specs.Stands.{Stands, SomeBlock, NoBlock, NoGap}
 use Rattle.rules.specs.Pictures.{pictureOf, Says}
-use Rattle.rules.specs.Libraries.{Call, start, alloc, free as release, resize, relocate, realloc, size, view, report, write, read}
-use Rattle.rules.specs.Batches.{Wanted, known, unknown}
+use Rattle.rules.specs.Libraries.{Call, start, alloc, free, resize, relocate, realloc, size, view, report, write, read}
+use Rattle.rules.specs.Batches.{Wanted, aCall, unknown}
 
--- a request for `w` words that an arena of `n` words may be asked: neither reason 4 nor reason 5 applies to it
+-- a request that an arena of so many words may be asked for: neither reason 4 nor reason 5 applies to it
 abbrev pub LawfulRequest : ℕ → ℕ → Type 0
-LawfulRequest n w = (1 ≤ w) × (w ≤ greatestRequest n)
+LawfulRequest words n = (1 ≤ n) × (n ≤ greatestRequest words)
 
 -- what the reasons say of a call on the words `a`: all calls but start, and the two for pictures below, have the first
 -- two like this, and `block`, `zero`, `large`, `room` and `stuck` are the call's own
@@ -49,7 +49,7 @@ AllocRefused a n = Grounds a ⊥ (n ≡ 0) (greatestRequest (length a) < n) (Law
 -- `post`
 pub record Short (s : ℕ) (post : List Chunk) (need : ℕ) : Type 0 where
   pub own : s < need
-  pub with-next : (t : ℕ) (rest : List Chunk) → post ≡ free t ∷ rest → s + t < need
+  pub with-next : (t : ℕ) (rest : List Chunk) → post ≡ freeChunk t ∷ rest → s + t < need
 
 abbrev pub ShortBlock : List ℕ → ℕ → ℕ → Type 0
 ShortBlock a b need = (pre : List Chunk) × (s : ℕ) × (post : List Chunk) × Stands (chunksOf a) pre (live s) post b × Short s post need
@@ -88,7 +88,7 @@ pub data ReadRefused (text a : List ℕ) : Reason → Type 0 where
 abbrev pub CallRefused : Call → List ℕ → Reason → Type 0
 CallRefused start a why = StartRefused a why
 CallRefused (alloc w) a why = AllocRefused a w why
-CallRefused (release b) a why = BlockRefused a b why
+CallRefused (free b) a why = BlockRefused a b why
 CallRefused (resize b w) a why = ResizeRefused a b w why
 CallRefused (relocate b w) a why = RelocateRefused a b w why
 CallRefused (realloc b w) a why = ReallocRefused a b w why
@@ -102,7 +102,7 @@ CallRefused (read text) a why = ReadRefused text a why
 abbrev pub callFields : Call → ℕ
 callFields start = 0
 callFields (alloc w) = 2
-callFields (release b) = 0
+callFields (free b) = 0
 callFields (resize b w) = 2
 callFields (relocate b w) = 2
 callFields (realloc b w) = 2
@@ -114,9 +114,9 @@ callFields (read text) = 0
 
 -- a request of a batch is refused for its call's reasons, or for its kind
 abbrev pub WantedRefused : Wanted → List ℕ → Reason → Type 0
-WantedRefused (known c) a why = CallRefused c a why
+WantedRefused (aCall c) a why = CallRefused c a why
 WantedRefused unknown a why = why ≡ Frame
 
 abbrev pub wantedFields : Wanted → ℕ
-wantedFields (known c) = callFields c
+wantedFields (aCall c) = callFields c
 wantedFields unknown = 0

@@ -1,6 +1,6 @@
-// The calls for C: each returns its code, and stores the fields of its answer into a lent array. The header is
-// include/zandervlecht.h. A view needs no function: it is the words from the block's number on, as many as `zv_size`
-// answers.
+// The calls for C: each returns its code, and stores the fields of its answer into a lent array; `zv_batch` stores both
+// into its records. The header is include/zandervlecht.h. A view needs no function: it is the words from the block's
+// number on, as many as `zv_size` answers.
 use answers::Finish;
 use answers::Granted;
 use answers::Numbers;
@@ -114,7 +114,11 @@ pub extern "C" fn zv_batch(a: &mut [u32], requests: &mut [Request])
 {
     let mut i = 0;
     while i < requests.len() {
-        requests[i] = batch::fill(a, requests[i]);
+        let request = requests[i];
+        let served = batch::serve(a, request.kind, request.b, request.n);
+        requests[i].code = served.code;
+        requests[i].block = served.block;
+        requests[i].granted = served.granted;
         i += 1;
     }
 }
