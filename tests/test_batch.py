@@ -11,7 +11,7 @@ from test_call_rows import SHORT_GAP, counted, words
 from test_damaged_arenas import asked_for, block_for
 
 BATCHES = 3000
-AT_ONCE = 500
+AT_ONCE = 250
 
 # A random list has up to so many records; so many lists with at least so many are cut in two at every place.
 LONGEST = 60
@@ -236,10 +236,10 @@ def random_case(random, number):
     return Case(random_records(random, arena, number % (LONGEST + 1)), over, arena.words)
 
 
-def unfinished(random, number):
-    """Bytes after the last case that are no case: nothing, a case cut short, or one longer than is allowed."""
+def unfinished(random, number, longest):
+    """Bytes after the last case that are no case: nothing, a case cut short, or one longer than a program takes."""
     whole = batches.case_bytes(lab_row()[0])
-    listed, length = batches.LONGEST_LIST + 1, batches.LONGEST_ARENA + 1
+    listed, length = longest + 1, batches.LONGEST_ARENA + 1
     too_long = [cases.packed([listed, 0]) + bytes(4 * listed), cases.packed([0, length]) + bytes(4 * length)]
     too_long += [cases.packed(lengths) for lengths in ([2**31, 0], [2**32 - 1, 0], [0, 2**30], [0, 2**32 - 1])]
     kinds = cases.cut_short(random, whole, batches.CASE_HEAD) + [start + whole for start in too_long]
@@ -274,13 +274,13 @@ def wanted():
 # The comparison.
 
 
-def compare_random(command, random, count):
-    """So many random batches, some of them at once; gives what was met."""
+def compare_random(command, random, count, longest):
+    """So many random batches, some of them at once, for a program that takes so long lists; gives what was met."""
     met = Counter()
     for done in range(0, count, AT_ONCE):
         asked = [random_case(random, number) for number in range(done, min(done + AT_ONCE, count))]
         answers = list(map(batches.answer_to, asked))
-        run_cases(command, asked, answers, unfinished(random, done // AT_ONCE), batches)
+        run_cases(command, asked, answers, unfinished(random, done // AT_ONCE, longest), batches)
         for case, answer in zip(asked, answers):
             met.update(met_by(case, answer))
     return met
@@ -319,18 +319,18 @@ def compare_long(command, rounds):
     return rounds * len(LAB)
 
 
-def compare_program(command, chosen, rounds):
+def compare_program(command, chosen, rounds, longest):
     """Rows by hand, a long list, batches cut in two, random batches; gives a line that counts them."""
     random = Random(chosen.seed)
     rows = run_rows(command, [*list_rows(), *done_rows(), *refused_rows()], batches)
-    longest = compare_long(command, rounds)
+    in_one = compare_long(command, rounds)
     cuts = compare_cuts(command, random)
-    met = compare_random(command, random, chosen.count)
+    met = compare_random(command, random, chosen.count, longest)
     if chosen.count >= BATCHES:
         driver.check_met(met, wanted(), 10, "batches")
     requests = sum(count for what, count in met.items() if what[1] == "code")
     told = f"{requests:,} requests in {chosen.count:,} batches compared with all records and words"
-    return f"{told}; {rows:,} lists by hand, one of {longest:,} requests, and {cuts:,} cuts of a batch in two"
+    return f"{told}; {rows:,} lists by hand, one of {in_one:,} requests, and {cuts:,} cuts of a batch in two"
 
 
 def compare_from_c(chosen):
@@ -340,14 +340,15 @@ def compare_from_c(chosen):
         command = c_programs.build("c_batch", "c99", source, chosen.root)
     except c_programs.NotHere as told:
         return f"nothing from C{c_programs.skipped([str(told)])}"
-    compare_program(command, chosen, MANY_ROUNDS if chosen.count >= BATCHES else ROUNDS)
+    rounds = MANY_ROUNDS if chosen.count >= BATCHES else ROUNDS
+    compare_program(command, chosen, rounds, batches.LONGEST_LIST_IN_C)
     return "from C each batch was the same requests made singly, in lists of records"
 
 
 def compare(chosen):
     """All of that from C, and then through the program whose records are plain words."""
     from_c = compare_from_c(chosen)
-    told = compare_program(chosen.batch_cases, chosen, ROUNDS)
+    told = compare_program(chosen.batch_cases, chosen, ROUNDS, batches.LONGEST_LIST)
     own = compare_own_cases("batch_cases", batches)
     return f"{told}; {own} cases of the program's own; {from_c}"
 

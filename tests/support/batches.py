@@ -15,8 +15,10 @@ from .telling import differences
 ALLOC, FREE, REALLOC, RESIZE, RELOCATE, SIZE = range(1, 7)
 NAMES = {ALLOC: "alloc", FREE: "free", REALLOC: "realloc", RESIZE: "resize", RELOCATE: "relocate", SIZE: "size"}
 
-# The most words of a list and of an arena, the bytes before the list in a case, and the words of a record.
-LONGEST_LIST = 420000
+# The most words of a list, for the program batch_cases and for the one in C, and of an arena; the bytes before the list
+# in a case, and the words of a record.
+LONGEST_LIST = 4096
+LONGEST_LIST_IN_C = 420000
 LONGEST_ARENA = 16400
 CASE_HEAD = 8
 RECORD_WORDS = 6

@@ -1,12 +1,13 @@
 """The model in the place of a program, with one fault or none.
 
-In the folder of the tests: python3 -m support.stand_in board|cases|picture_cases [FAULT].
+In the folder of the tests: python3 -m support.stand_in board|cases|picture_cases|batch_cases [FAULT].
 """
 
 import struct
 import sys
 
-from . import cases, lines, model, picture_cases
+from . import batches, cases, lines, model, picture_cases
+from .batch_faults import BATCH_FAULTS
 from .picture_faults import PICTURE_FAULTS
 
 # The reply, counted from 0, that a fault of replies spoils.
@@ -293,12 +294,19 @@ def picture_replies():
         yield picture_cases.reply_bytes(picture_cases.answer_to(case))
 
 
+def batch_replies():
+    """Replies to the batches of standard input."""
+    for case in batches.cases_in(sys.stdin.buffer.read()):
+        yield batches.reply_bytes(batches.answer_to(case))
+
+
 def main(name, fault=None):
     """Answers as the program would, but for the fault."""
-    rule_faults = PICTURE_FAULTS if name == "picture_cases" else {**RULE_FAULTS, **REPORT_FAULTS}
-    rule_faults.get(fault, lambda: None)()
+    own_faults = {"picture_cases": PICTURE_FAULTS, "batch_cases": BATCH_FAULTS}
+    own_faults.get(name, {**RULE_FAULTS, **REPORT_FAULTS}).get(fault, lambda: None)()
     held_back = b""
-    replies = {"board": lambda: board_replies(fault), "cases": cases_replies, "picture_cases": picture_replies}
+    replies = {"board": lambda: board_replies(fault), "cases": cases_replies, "picture_cases": picture_replies,
+               "batch_cases": batch_replies}
     for number, reply in enumerate(replies[name]()):
         spoil = fault in REPLY_FAULTS and number == SPOILED_REPLY
         written = REPLY_FAULTS[fault](reply) if spoil else reply

@@ -8,6 +8,7 @@ import tempfile
 from collections import namedtuple
 
 from . import programs
+from .batch_faults import BATCH_FAULTS
 from .driver import Difference
 from .picture_faults import PICTURE_FAULTS
 from .stand_in import LATE
@@ -25,7 +26,8 @@ Trial = namedtuple("Trial", "driver count program faults")
 # The driver of the document's rows runs both programs.
 BOTH = "test_document_rows"
 
-# The trials, by what the drivers compare: rows by hand, long runs of lines, single calls on many arenas, pictures.
+# The trials, by what the drivers compare: rows by hand, long runs of lines, single calls on many arenas, pictures,
+# batches of plain words. (Batches from C are tried on spoiled copies.)
 ROWS = [
     Trial(BOTH, 1, "board", ["digit", "missing", "extra", "tail", *ANOTHER_COUNT]),
     Trial(BOTH, 1, "cases", ["word", "missing", "extra", *ANOTHER_COUNT]),
@@ -43,6 +45,7 @@ ARENAS = [
     Trial("test_damaged_arenas", 3000, "cases", ["word", "missing", "extra", "believe", "clear", "manylinks",
                                                  *ANOTHER_COUNT, *ANOTHER_LENGTH]),
 ]
+BATCHES = [Trial("test_batch", 12, "batch_cases", ["word", "missing", *BATCH_FAULTS])]
 PICTURES = [Trial("test_pictures", 300, "picture_cases", ["word", "missing", "extra", *PICTURE_FAULTS])]
 
 
