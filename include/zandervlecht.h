@@ -67,7 +67,7 @@ enum zv_code {
     ZV_NO_ROOM = 6,
     /* A line cannot be read, or a kind is unknown: zv_read, zv_batch and the line program say so, and no other call. */
     ZV_FRAME = 7,
-    /* The block cannot stay where it is: zv_resize says so, and no other call. */
+    /* The block cannot stay where it is: zv_resize says so, alone or in a batch, and no other call. */
     ZV_WOULD_MOVE = 8,
     /* The text is too short for the picture: zv_write says so, and no other call. */
     ZV_TEXT_ROOM = 11
@@ -109,7 +109,10 @@ enum zv_kind {
     ZV_SIZE = 6
 };
 
-/* One request of a batch: the caller fills in what is asked, kind, b and n, and zv_batch fills in what is answered. */
+/*
+ * One request of a batch: the caller fills in what is asked, kind, b and n, and zv_batch fills in what is answered. It
+ * has six words, in this order, with nothing between them.
+ */
 struct zv_request {
     /* One of enum zv_kind; any other number is refused with ZV_FRAME before all else, whatever the arena is. */
     uint32_t kind;
