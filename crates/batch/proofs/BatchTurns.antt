@@ -13,7 +13,7 @@ use Rattle.rules.proofs.Batches.{batch-none, batch-more}
 abbrev pub behind : List Request → Batch → Batch
 behind before batch = record { records = before ++ batch .records; words = batch .words }
 
--- where the loop stands in the batch `xs` on the words `ys`: with these words, the rest comes to what the whole comes to
+-- where the loop stands in the batch `xs` on the words `ys`: with these words the rest comes to what the whole comes to
 pub record Going (ys : List ℕ) (xs : List Request) : Type 0 where
   pub words : List ℕ
   pub before : List Request

@@ -49,8 +49,8 @@ too-few [] h = (refl, refl)
 
 -- ---- the loop
 
--- where it stands in the records `xs` on the words `ys`: the first `at` words of `rs` spell records that are filled, and
--- those behind them are as they came
+-- where it stands in the records `xs` on the words `ys`: the first `at` words of `rs` spell records that are filled,
+-- and those behind them are as they came
 pub record Spelling (ys xs : List ℕ) (at : ℕ) (ws rs : List ℕ) : Type 0 where
   pub before : List Request
   pub tail : List ℕ

@@ -277,7 +277,9 @@ module _ {M : Type 1} (𝓤 : URA M) (H : Heap 𝓤) (A : Atoms 𝓤) (W : Given
       abbrev Locals : Env 𝓤 H
       Locals = (tyUnit, l₀) ∷ (arenaTy, l₁) ∷ (listTy, l₂) ∷ (size, l₃) ∷ Temps
 
-      -- what the loop has where the words are ws, and the records before ++ rest, of which those before are filled
+      -- what the loop has where the words are ws, and the records before ++ rest, of which those before are filled. Below,
+      -- a line in brackets says what is there; the locals stand last, each with its right to die, in the order that At
+      -- has: _3, _1, _2, _4 to _14, _0
       abbrev At : List ℕ → List Request → List Request → List (Item 𝓤)
       At ws before rest =
           (‵ (row Record fullShare (before ++ rest) b′ o′) ∷ ListOpen)
@@ -308,7 +310,7 @@ module _ {M : Type 1} (𝓤 : URA M) (H : Heap 𝓤) (A : Atoms 𝓤) (W : Given
       unfolding afterTurn
       ends ws before X long count fills =
           qed W (At ws before []) ∵ exec ! C Λ Locals code-mir.turn-1 (anyQ (afterTurn 𝓤 H X Left)) $
-          -- [the records; the list's open borrow, in three; the words; the arena's, in three; _3; …; _1; …; _2; …; _4; …; _14; …; _0; …]
+          -- [the records; the list's open borrow, in three; the words; the arena's, in three; the locals]
           assigns ! (of-opd ! (load ! (from ! (fld ! refl (stop !))) (look-in ! 12 (sub ! 1 refl (whole !))))) (from ! (stop !))
           (init ! 18 refl (tt, record { fits = room′ .0 })) $
           assigns ! (bin ! (load ! (from ! (stop !)) (look ! 8 refl)) (load ! (from ! (stop !)) (look ! 18 refl)) tt) (from ! (stop !))
@@ -317,7 +319,7 @@ module _ {M : Type 1} (𝓤 : URA M) (H : Heap 𝓤) (A : Atoms 𝓤) (W : Given
           leaves-loop ! (load ! (from ! (stop !)) (look ! 20 refl)) $ exec ! C Λ Locals code-mir.t-3 (atRet Locals Post) $
           assigns ! (of-opd ! (unit-lit !)) (from ! (stop !)) (init ! 36 refl (tt, tt)) $
           closes-slice ! tt Record xs (before ++ []) count b′ o′ $ move ! (3 ∷ 4 ∷ 5 ∷ 6 ∷ []) $ closes-slice ! tt u32 ys ws long b o $
-          -- [the arena's borrow, in three; the list's, in three; _3; …; _1; …; _2; …; _4; …; _14; …; _0; …]
+          -- [the arena's borrow, in three; the list's, in three; the locals]
           returns ! (look ! 34 refl) $
           forget ! 6 refl $ forget ! 8 refl $ forget ! 10 refl $ forget ! 16 refl $ forget ! 18 refl $ forget ! 34 refl $
           move ! (34 ∷ 35 ∷ []) $ free1 ! $ move ! (8 ∷ 9 ∷ []) $ free1 ! $ move ! (8 ∷ 9 ∷ []) $ free1 ! $
@@ -338,7 +340,7 @@ module _ {M : Type 1} (𝓤 : URA M) (H : Heap 𝓤) (A : Atoms 𝓤) (W : Given
       unfolding afterTurn
       fills-one ws before r rest X long count k =
           qed W (At ws before (r ∷ rest)) ∵ exec ! C Λ Locals code-mir.turn-1 (anyQ (afterTurn 𝓤 H X Left)) $
-          -- [the records; the list's open borrow, in three; the words; the arena's, in three; _3; …; _1; …; _2; …; _4; …; _14; …; _0; …]
+          -- [the records; the list's open borrow, in three; the words; the arena's, in three; the locals]
           assigns ! (of-opd ! (load ! (from ! (fld ! refl (stop !))) (look-in ! 12 (sub ! 1 refl (whole !))))) (from ! (stop !))
           (init ! 18 refl (tt, record { fits = room′ .0 })) $
           assigns ! (bin ! (load ! (from ! (stop !)) (look ! 8 refl)) (load ! (from ! (stop !)) (look ! 18 refl)) tt) (from ! (stop !))
@@ -357,7 +359,7 @@ module _ {M : Type 1} (𝓤 : URA M) (H : Heap 𝓤) (A : Atoms 𝓤) (W : Given
           let asked-fit = laws.owed request.the-type request-laws.the-laws r _ is-r in
           rewrite ! 0 (λ (z : Request). ‵ (cellAt fullShare (Record .mir) (valuesOf z) b′ (place 24 o′ i))) (getD-append-seam before r rest r) refl $
           move ! (1 ∷ []) $ drop ! $
-          -- [its cell; the others; the list's open borrow; the words; the arena's open borrow; _3; …; _1; …; _2; …; _4; …; _14; …; _0; …]
+          -- [its cell; the others; the list's open borrow; the words; the arena's open borrow; the locals]
           assigns ! (of-opd ! (load ! (from ! (hop ! (look ! 23 refl) (stop !))) (look-raw ! 0 refl))) (from ! (stop !))
           (init ! 25 refl (laws.lawful request.the-type request-laws.the-laws 𝓤 H A W .typed r _ is-r .0)) $
           assigns ! (of-opd ! (load ! (from ! (stop !)) (look ! 25 refl))) (from ! (stop !))
@@ -402,7 +404,7 @@ module _ {M : Type 1} (𝓤 : URA M) (H : Heap 𝓤) (A : Atoms 𝓤) (W : Given
           drop ! $ split ! $ lft-end ! tt $ move ! (0 ∷ 4 ∷ 2 ∷ []) $
           use3 W (later (‵ (Arr (mem u32) (length ws) .lies (zs .0) b o))) (slice-back 𝓤 H A W u32 (ν ∷ []) δ (zs .0) (length ws) b o) $ await ! tt $
           fsplit ! $ drop ! $ use1 W (‵ (row u32 fullShare (zs .0) b o)) (whole-out 𝓤 H A W u32 (zs .0) b o) $
-          -- [the words; true; true; the record's cell; the others; the list's open borrow; the arena's; _3; …; _1; …; _2; …; _4; …; _14; …; _0; …]:
+          -- [the words; true; true; the record's cell; the others; the list's open borrow; the arena's; the locals]:
           -- the three stores, each by an address of its own
           assigns ! (bin ! (load ! (from ! (stop !)) (look ! 11 refl)) (lit ! tt) (record { fits = at-fits })) (from ! (stop !))
           (store ! 21 refl (tt, record { fits = at-fits })) $
@@ -444,7 +446,7 @@ module _ {M : Type 1} (𝓤 : URA M) (H : Heap 𝓤) (A : Atoms 𝓤) (W : Given
           elem-put ! Record fullShare (before ++ (r ∷ rest)) i (answered ws r) (valueOf (answered ws r) ∷ []) b′ o′ within $
           rewrite ! 0 (λ (rs : List Request). ‵ (row Record fullShare rs b′ o′))
           (set-append-seam before r rest (answered ws r) ∙ sym (append-assoc before (answered ws r ∷ []) rest)) refl $
-          -- [the records; the words; true; true; the list's open borrow; the arena's; _3; …; _1; …; _2; …; _4; …; _14; …; _0; …]
+          -- [the records; the words; true; true; the list's open borrow; the arena's; the locals]
           assigns-last ! (bin ! (load ! (from ! (stop !)) (look ! 10 refl)) (lit ! tt) (record { fits = next-fits })) (from ! (stop !))
           (store ! 10 refl (tt, record { fits = next-fits })) $
           rewrite ! 10 (λ (j : ℕ). ‵ (fat fullShare size l₃ 0 (vint w64 j))) (next-is (answered ws r)) refl $
@@ -522,7 +524,7 @@ module _ {M : Type 1} (𝓤 : URA M) (H : Heap 𝓤) (A : Atoms 𝓤) (W : Given
           qed W Entered ∵ exec ! C Λ Locals code-mir.t-2 (atRet Locals Post) $
           move ! (31 ∷ []) $ fsplit ! $ move ! (1 ∷ []) $ fsplit ! $ fsplit ! $ drop ! $ fsplit ! $
           move ! (34 ∷ []) $ split ! $ move ! (1 ∷ []) $ split ! $ move ! (3 ∷ 4 ∷ 0 ∷ []) $ opens-slice ! tt Record xs b′ o′ $
-          -- [the records; the list's open borrow, in three; true; the arena's token; true; what its borrow owns; _14; …; _0; …]
+          -- [the records; the list's open borrow, in three; true; the arena's token; true; what its borrow owns; the locals]
           move ! (7 ∷ []) $ fsplit ! $ drop ! $ fsplit ! $ move ! (0 ∷ 1 ∷ 7 ∷ []) $ opens-slice ! tt u32 ys b o $
           keep !
           (4 ∷ 5 ∷ 6 ∷ 7 ∷ 0 ∷ 1 ∷ 2 ∷ 3 ∷ 32 ∷ 33 ∷ 36 ∷ 37 ∷ 34 ∷ 35
