@@ -277,9 +277,9 @@ module _ {M : Type 1} (𝓤 : URA M) (H : Heap 𝓤) (A : Atoms 𝓤) (W : Given
       abbrev Locals : Env 𝓤 H
       Locals = (tyUnit, l₀) ∷ (arenaTy, l₁) ∷ (listTy, l₂) ∷ (size, l₃) ∷ Temps
 
-      -- what the loop has where the words are ws, and the records before ++ rest, of which those before are filled. Below,
-      -- a line in brackets says what is there; the locals stand last, each with its right to die, in the order that At
-      -- has: _3, _1, _2, _4 to _14, _0
+      -- what the loop has where the words are ws, and the records before ++ rest, of which those before are filled.
+      -- Below, a line in brackets says what is there; the locals stand last, each with its right to die, in the order
+      -- that At has: _3, _1, _2, _4 to _14, _0
       abbrev At : List ℕ → List Request → List Request → List (Item 𝓤)
       At ws before rest =
           (‵ (row Record fullShare (before ++ rest) b′ o′) ∷ ListOpen)
@@ -524,7 +524,7 @@ module _ {M : Type 1} (𝓤 : URA M) (H : Heap 𝓤) (A : Atoms 𝓤) (W : Given
           qed W Entered ∵ exec ! C Λ Locals code-mir.t-2 (atRet Locals Post) $
           move ! (31 ∷ []) $ fsplit ! $ move ! (1 ∷ []) $ fsplit ! $ fsplit ! $ drop ! $ fsplit ! $
           move ! (34 ∷ []) $ split ! $ move ! (1 ∷ []) $ split ! $ move ! (3 ∷ 4 ∷ 0 ∷ []) $ opens-slice ! tt Record xs b′ o′ $
-          -- [the records; the list's open borrow, in three; true; the arena's token; true; what its borrow owns; the locals]
+          -- [the records; the list's open borrow; true; the arena's token; true; what its borrow owns; the locals]
           move ! (7 ∷ []) $ fsplit ! $ drop ! $ fsplit ! $ move ! (0 ∷ 1 ∷ 7 ∷ []) $ opens-slice ! tt u32 ys b o $
           keep !
           (4 ∷ 5 ∷ 6 ∷ 7 ∷ 0 ∷ 1 ∷ 2 ∷ 3 ∷ 32 ∷ 33 ∷ 36 ∷ 37 ∷ 34 ∷ 35
