@@ -83,17 +83,23 @@ static void fill_but_for_top(uint32_t *arena, size_t words, size_t count)
     lay_gap(&site, lay_all_but_one(&site, count));
 }
 
-/* Live and free chunks by turns. At the top: two live ones, the lower of them longer than a gap, and a larger gap. */
+/*
+ * Live and free chunks by turns. At the top: two live ones, the lower of them longer than the gap before it, and a
+ * larger gap. When that lower one moves away and comes back, the gap before it is long enough to be split off again.
+ */
 static void fill_by_turns(uint32_t *arena, size_t words, size_t size)
 {
     struct site site = begin_site(arena, words);
-    size_t top = (size + 2) + size + (size + 8);
+    size_t last = size < LEAST_SPLIT ? LEAST_SPLIT : size;
+    size_t top = size + last + (last + 2) + size + (last + 2 + LEAST_SPLIT);
 
     while (site.words - site.chunk >= 2 * size + top) {
         lay_live(&site, size);
         lay_gap(&site, size);
     }
-    lay_live(&site, size + 2);
+    lay_live(&site, size);
+    lay_gap(&site, last);
+    lay_live(&site, last + 2);
     lay_live(&site, size);
     lay_gap(&site, site.words - site.chunk);
 }
@@ -107,7 +113,8 @@ void fill_arena(uint32_t *arena, size_t words, enum filling filling, enum crowd 
         fill_with_live(arena, words, count);
         break;
     case GAP_AT_TOP:
-        fill_but_for_top(arena, words, count);
+        /* Among least chunks the gap takes the place of two, so that it is long enough to be split off. */
+        fill_but_for_top(arena, words, crowd == FEW ? count : count - 1);
         break;
     case EVERY_SECOND:
         fill_by_turns(arena, words, crowd == FEW ? words / 10 / 2 * 2 : LEAST_CHUNK);

@@ -6,15 +6,15 @@
 
 #define LIVE_MARK 4294967295u
 
-enum { FIRST_CHUNK = 2, HEADER = 2, MOST_CHUNKS = 4095 };
+enum { FIRST_CHUNK = 2, HEADER = 2, LEAST_SPLIT = 8, MOST_CHUNKS = 4095 };
 
 /* How the chunks of an arena lie. */
 enum filling {
     /* Every chunk is live. */
     ALL_LIVE,
-    /* Every chunk but the last. */
+    /* Every chunk but the last, which is long enough to be split off. */
     GAP_AT_TOP,
-    /* Live and free chunks by turns. The last gap is the only one that holds more than the others do. */
+    /* Live and free chunks by turns. The last gap holds more than any other. */
     EVERY_SECOND,
     /* What a random run of allocs, frees and reallocs leaves. */
     USUAL_USE

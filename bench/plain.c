@@ -98,7 +98,7 @@ static size_t take(uint32_t *arena, struct place gap, size_t need)
     size_t rest = arena[gap.chunk] - need;
     size_t chunk = gap.chunk + rest;
 
-    if (rest < LEAST_CHUNK) {
+    if (rest < LEAST_SPLIT) {
         arena[gap.link] = arena[gap.chunk + 1];
         arena[gap.chunk + 1] = LIVE_MARK;
         return gap.chunk;
@@ -143,7 +143,7 @@ static size_t kept_of(size_t need, size_t size, size_t room)
 {
     if (need <= size && size < room)
         return need;
-    return room - need < LEAST_CHUNK ? room : need;
+    return room - need < LEAST_SPLIT ? room : need;
 }
 
 /* The block keeps the first words of its room, and what is left of it is a gap. */

@@ -6,7 +6,8 @@
 
 #define LIVE_MARK 4294967295u
 
-enum { LIST_WORD = 1, FIRST_CHUNK = 2, HEADER = 2, LEAST_CHUNK = 4 };
+/* LEAST_CHUNK is the least size that a chunk may have, and LEAST_SPLIT the least that is split off from another. */
+enum { LIST_WORD = 1, FIRST_CHUNK = 2, HEADER = 2, LEAST_CHUNK = 4, LEAST_SPLIT = 8 };
 
 /* What the report counts. */
 struct tally {

@@ -3,6 +3,8 @@
 
 #include <string.h>
 
+#include "comparing.h"
+
 static uint32_t make_size(const struct library *library, uint32_t *arena, size_t words, struct part *part)
 {
     uint32_t answer[1];
@@ -89,15 +91,16 @@ static uint32_t make_whole_trace(const struct library *library, uint32_t *arena,
     return make_trace(library, arena, words, part->trace);
 }
 
+/* To and fro is by as many words as are surely cut off again. */
 const struct turn timed_turns[TURN_KINDS] = {
     {"size", make_size, 1, 0, ZV_DONE, 0, ANYTHING, 0},
     {"report", make_report, 1, 0, ZV_DONE, 0, ANYTHING, 0},
     {"alloc refused", make_refused, 1, 0, ZV_NO_ROOM, 0, ANYTHING, 0},
     {"alloc and free", make_pair, 2, 0, ZV_DONE, 1, ANYTHING, 0},
     {"resize, kept", make_kept_resize, 1, 0, ZV_DONE, 0, ANYTHING, 0},
-    {"resize, to and fro", make_resize, 2, 0, ZV_DONE, 1, A_GAP, 2},
+    {"resize, to and fro", make_resize, 2, 0, ZV_DONE, 1, A_GAP, LEAST_SPLIT},
     {"realloc, kept", make_kept_realloc, 1, 0, ZV_DONE, 0, ANYTHING, 0},
-    {"realloc, to and fro", make_realloc, 2, 0, ZV_DONE, 1, A_GAP, 2},
+    {"realloc, to and fro", make_realloc, 2, 0, ZV_DONE, 1, A_GAP, LEAST_SPLIT},
     {"move: realloc, back", make_move, 2, 2, ZV_DONE, 1, NO_GAP, 2},
     {"move: relocate", make_relocate, 2, 2, ZV_DONE, 1, NO_GAP, 0},
 };
@@ -111,7 +114,7 @@ static uint32_t alloc_request(enum filling filling, uint32_t largest)
 {
     switch (filling) {
     case EVERY_SECOND:
-        return largest - 4;
+        return largest - LEAST_SPLIT;
     case USUAL_USE:
         return 6;
     default:
@@ -119,7 +122,7 @@ static uint32_t alloc_request(enum filling filling, uint32_t largest)
     }
 }
 
-/* Whether this turn can be made with this part and, when it was made a few times, brings the arena back. */
+/* Whether this turn, when it was made a few times with this part, moves what it should and brings the arena back. */
 static int comes_back(const struct turn *turn, uint32_t *arena, size_t words, struct part *part)
 {
     static uint32_t before[ZV_GREATEST_WORDS];
@@ -132,7 +135,8 @@ static int comes_back(const struct turn *turn, uint32_t *arena, size_t words, st
     }
     block = part->block;
     memcpy(before, arena, words * sizeof *arena);
-    return turn->make(&plain, arena, words, part) == turn->codes && part->block == block
+    begin_comparing(arena, words, turn->name);
+    return turn->make(&both, arena, words, part) == turn->codes && seen.moves == turn->moves && part->block == block
            && memcmp(arena, before, words * sizeof *arena) == 0;
 }
 

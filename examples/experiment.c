@@ -43,7 +43,7 @@ static struct zv_request lab[] = {
     {.kind = ZV_SIZE, .b = 64},
 
     /* The logs grow: the thermometer's where it stands, the motor's elsewhere. The light gate is done. */
-    {.kind = ZV_RESIZE, .b = 36, .n = 24},      /* 36: granted 26 words, since two are too few to be a gap */
+    {.kind = ZV_RESIZE, .b = 36, .n = 20},      /* 36: granted 26 words, since six over are too few to be a gap */
     {.kind = ZV_REALLOC, .b = 116, .n = 20},    /* 14: the motor's log */
     {.kind = ZV_FREE, .b = 106},
 
@@ -63,19 +63,19 @@ static struct zv_request lab[] = {
     {.kind = ZV_RESIZE, .b = 64, .n = 16},      /* 64 */
     {.kind = ZV_RELOCATE, .b = 14, .n = 12},    /* 90: the motor's log */
     {.kind = ZV_FREE, .b = 36},
-    {.kind = ZV_ALLOC, .n = 44},                /* 18: the fourth trace */
-    {.kind = ZV_REALLOC, .b = 4, .n = 10},      /* 4: the table grows where it stands */
+    {.kind = ZV_ALLOC, .n = 40},                /* 22: the fourth trace; eight words over stay a gap */
+    {.kind = ZV_REALLOC, .b = 4, .n = 10},      /* 4: the table grows where it stands, by all of that gap */
 
     /* The fourth trace can grow neither where it stands nor elsewhere, until the third is freed. */
-    {.kind = ZV_RESIZE, .b = 18, .n = 60},      /* WouldMove */
-    {.kind = ZV_REALLOC, .b = 18, .n = 60},     /* NoRoom */
+    {.kind = ZV_RESIZE, .b = 22, .n = 56},      /* WouldMove */
+    {.kind = ZV_REALLOC, .b = 22, .n = 56},     /* NoRoom */
     {.kind = ZV_FREE, .b = 64},
-    {.kind = ZV_REALLOC, .b = 18, .n = 60},     /* 18 */
+    {.kind = ZV_REALLOC, .b = 22, .n = 56},     /* 22 */
 
     /* All traces are read out and freed; the table is kept, and the motor's log goes on. */
     {.kind = ZV_FREE, .b = 104},
-    {.kind = ZV_SIZE, .b = 18},
-    {.kind = ZV_FREE, .b = 18},
+    {.kind = ZV_SIZE, .b = 22},
+    {.kind = ZV_FREE, .b = 22},
     {.kind = ZV_REALLOC, .b = 90, .n = 30},     /* 90: the motor's log */
 };
 

@@ -37,7 +37,8 @@ WITHOUT_B = [ALLOC]
 WITHOUT_N = [FREE, SIZE]
 
 # A lab of forty requests on a started arena of 64 words: what each asks, kind, b and n, and its code, block and granted
-# words, worked out by hand. The chunks are as the comment behind each change has them, the live ones in brackets.
+# words, worked out by hand. The chunks are as the comment behind each change has them, the live ones in brackets; where
+# words are over, it says what becomes of them.
 LAB_BEFORE = f"64 2 | 62 0 {counted(4, 63)}"
 LAB = [
     ((ALLOC, 0, 10), (0, 54, 10)),          # 50 [12]
@@ -50,41 +51,42 @@ LAB = [
     ((FREE, 54, 2**32 - 1), (0, 0, 0)),     # 40 [10] 12
     ((SIZE, 54, 0), (3, 0, 0)),
     ((FREE, 54, 0), (3, 0, 0)),
-    ((RESIZE, 44, 12), (0, 44, 12)),        # 40 [14] 8
+    ((RESIZE, 44, 12), (0, 44, 12)),        # 40 [14] 8: eight over stay free
     ((RESIZE, 44, 20), (0, 44, 20)),        # 40 [22]
     ((RESIZE, 44, 21), (8, 0, 0)),
     ((REALLOC, 44, 21), (0, 20, 22)),       # 16 [24] 22
     ((7, 20, 4), (7, 0, 0)),
     ((RELOCATE, 20, 4), (0, 14, 4)),        # 10 [6] 46
-    ((ALLOC, 0, 4), (0, 8, 4)),             # 4 [6] [6] 46
-    ((ALLOC, 0, 3), (0, 60, 4)),            # 4 [6] [6] 40 [6]
+    ((ALLOC, 0, 1), (0, 4, 8)),             # [10] [6] 46: six over are granted
+    ((ALLOC, 0, 3), (0, 60, 4)),            # [10] [6] 40 [6]
     ((ALLOC, 0, 40), (6, 0, 0)),
     ((REALLOC, 60, 0), (4, 0, 0)),
     ((REALLOC, 61, 5), (3, 0, 0)),
     ((REALLOC, 60, 61), (5, 0, 0)),
     ((REALLOC, 60, 39), (6, 0, 0)),
-    ((REALLOC, 60, 38), (0, 20, 38)),       # 4 [6] [6] [40] 6
-    ((RESIZE, 20, 36), (0, 20, 36)),        # 4 [6] [6] [38] 8
+    ((REALLOC, 60, 38), (0, 20, 38)),       # [10] [6] [40] 6
+    ((RESIZE, 20, 36), (0, 20, 36)),        # [10] [6] [38] 8: two over go to the free chunk
     ((SIZE, 20, 2**32 - 1), (0, 0, 36)),
     ((2**32 - 1, 20, 36), (7, 0, 0)),
-    ((ALLOC, 20, 2), (0, 4, 2)),            # [4] [6] [6] [38] 8
-    ((RELOCATE, 8, 6), (0, 58, 6)),         # [4] 6 [6] [38] [8]
+    ((RELOCATE, 14, 2), (0, 58, 6)),        # [10] 6 [38] [8]: four over are granted
     ((RELOCATE, 58, 6), (6, 0, 0)),
-    ((FREE, 14, 0), (0, 0, 0)),             # [4] 12 [38] [8]
-    ((FREE, 14, 0), (3, 0, 0)),
-    ((REALLOC, 4, 9), (0, 4, 10)),          # [12] 4 [38] [8]
-    ((RESIZE, 20, 38), (8, 0, 0)),
-    ((FREE, 20, 0), (0, 0, 0)),             # [12] 42 [8]
-    ((SIZE, 20, 0), (3, 0, 0)),
-    ((ALLOC, 0, 40), (0, 16, 40)),          # [12] [42] [8]
+    ((ALLOC, 20, 2), (0, 14, 4)),           # [10] [6] [38] [8]: two over are granted, with a chunk of six
     ((ALLOC, 0, 1), (6, 0, 0)),
-    ((FREE, 16, 20), (0, 0, 0)),            # [12] 42 [8]
-    ((SIZE, 4, 0), (0, 0, 10)),
+    ((RESIZE, 20, 30), (0, 20, 36)),        # [10] [6] [38] [8]: six over are kept
+    ((RESIZE, 20, 28), (0, 20, 28)),        # [10] [6] [30] 8 [8]: eight over are cut off
+    ((RESIZE, 20, 38), (8, 0, 0)),
+    ((REALLOC, 20, 29), (0, 20, 36)),       # [10] [6] [38] [8]: six over are granted
+    ((FREE, 14, 0), (0, 0, 0)),             # [10] 6 [38] [8]
+    ((FREE, 20, 20), (0, 0, 0)),            # [10] 44 [8]
+    ((SIZE, 20, 0), (3, 0, 0)),
+    ((ALLOC, 0, 34), (0, 22, 34)),          # [10] 8 [36] [8]: eight over stay free
+    ((SIZE, 4, 0), (0, 0, 8)),
 ]
-LAB_AFTER = (f"64 14 | 12 live 1004 1005 12 0 {counted(8, 11)} 6 live"
-             f" | 42 0 1046 1047 38 live {counted(60, 63)} {counted(48, 51)} 12 0 1054 1055 8 0 {counted(58, 63)}"
-             f"   1040 1041 22 0 {counted(44, 51)} 12 0 1054 1055"
-             f" | 8 live {counted(8, 11)} 1062 1063")
+LAB_AFTER = (f"64 12 | 10 live {counted(4, 11)}"
+             f" | 8 0 {counted(44, 47)} 38 live"
+             f" | 36 live 1062 1063 {counted(48, 51)} 12 0 1054 1055 8 0 {counted(58, 63)}"
+             f"   1040 1041 22 0 {counted(44, 47)} 8 0 1050 1051 12 0 1054 1055"
+             f" | 8 live {counted(44, 47)} 1062 1063")
 
 # Arenas that are none: damaged, and of lengths that no arena has.
 NO_ARENAS = [

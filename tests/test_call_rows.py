@@ -1,12 +1,14 @@
-"""Holds the program `cases` and the model to rows of resize, the move, realloc and report, by hand with all words."""
+"""Holds the program `cases` and the model to rows of calls, worked out by hand with all their words.
+
+The calls are alloc, free, resize, the move, realloc and report.
+"""
 
 from support import driver, model
-from support.cases import REALLOC, RELOCATE, REPORT, RESIZE, Case
+from support.cases import ALLOC, FREE, REALLOC, RELOCATE, REPORT, RESIZE, Case
 from support.comparing import run_rows
 
 # Arenas with which more than one function of rows begins.
 BESIDE_FREE = "18 12 | 10 live 1004 1005 1006 1007 1008 1009 1010 1011 | 6 0 1014 1015 1016 1017"
-BELOW_TWO = "22 2 | 8 0 1004 1005 1006 1007 1008 1009 | 4 live 1012 1013 | 8 live 1016 1017 1018 1019 1020 1021"
 SHORT_GAP = "16 8 | 6 live 1004 1005 1006 1007 | 4 0 1010 1011 | 4 live 1014 1015"
 
 
@@ -37,15 +39,15 @@ def counted(first, last):
 
 def live_neighbour_rows():
     """A resize that would move leaves every word, and realloc moves: a live chunk or the end comes after the block."""
-    before = "20 2 | 10 0 1004 1005 1006 1007 1008 1009 1010 1011 | 4 live 1014 1015 | 4 live 1018 1019"
-    whole = "20 12 | 10 live 1014 1015 1006 1007 1008 1009 1010 1011 | 4 0 1014 1015 | 4 live 1018 1019"
-    split = "20 2 | 4 16 1004 1005 | 6 live 1018 1019 1010 1011 | 4 live 1014 1015 | 4 0 1018 1019"
-    yield refused(RESIZE, 14, 5, before, 8)
-    yield done(RELOCATE, 14, 5, before, (4, 8), whole)
-    yield done(REALLOC, 14, 5, before, (4, 8), whole)
-    yield refused(RESIZE, 18, 3, before, 8)
-    yield done(RELOCATE, 18, 3, before, (8, 4), split)
-    yield done(REALLOC, 18, 3, before, (8, 4), split)
+    before = f"24 2 | 14 0 {counted(4, 15)} | 4 live 1018 1019 | 4 live 1022 1023"
+    whole = f"24 16 | 14 live 1018 1019 {counted(6, 15)} | 4 0 1018 1019 | 4 live 1022 1023"
+    split = f"24 2 | 8 20 {counted(4, 9)} | 6 live 1022 1023 1014 1015 | 4 live 1018 1019 | 4 0 1022 1023"
+    yield refused(RESIZE, 18, 5, before, 8)
+    yield done(RELOCATE, 18, 5, before, (4, 12), whole)
+    yield done(REALLOC, 18, 5, before, (4, 12), whole)
+    yield refused(RESIZE, 22, 3, before, 8)
+    yield done(RELOCATE, 22, 3, before, (12, 4), split)
+    yield done(REALLOC, 22, 3, before, (12, 4), split)
 
 
 def short_neighbour_rows():
@@ -83,26 +85,17 @@ def lowest_gap_rows():
 
 
 def grow_rows():
-    """A block grows by part of the free chunk after it, by all of it, or by all of it with two words over."""
-    part = "18 14 | 12 live 1004 1005 1006 1007 1008 1009 1010 1011 6 0 | 4 0 1016 1017"
+    """A block grows by all of a short free chunk after it, up to four words over, and by part of a long one."""
     full = "18 0 | 16 live 1004 1005 1006 1007 1008 1009 1010 1011 6 0 1014 1015 1016 1017"
-    yield done(RESIZE, 4, 9, BESIDE_FREE, (4, 10), part)
-    yield done(RESIZE, 4, 10, BESIDE_FREE, (4, 10), part)
-    yield done(RESIZE, 4, 11, BESIDE_FREE, (4, 14), full)
-    yield done(RESIZE, 4, 14, BESIDE_FREE, (4, 14), full)
-
-
-def cut_rows():
-    """A tail of four is cut off, one of two or none is not, whether a live chunk comes after it or the end."""
-    before = "18 0 | 12 live 1004 1005 1006 1007 1008 1009 1010 1011 1012 1013 | 4 live 1016 1017"
-    cut = "18 10 | 8 live 1004 1005 1006 1007 1008 1009 | 4 0 1012 1013 | 4 live 1016 1017"
-    at_end = "12 2 | 4 0 1004 1005 | 6 live 1008 1009 1010 1011"
-    for call in (RESIZE, REALLOC):
-        yield done(call, 4, 5, before, (4, 6), cut)
-        yield done(call, 4, 7, before, (4, 10), before)
-        yield done(call, 4, 10, before, (4, 10), before)
-        yield done(call, 8, 2, at_end, (8, 4), at_end)
-        yield done(call, 8, 1, at_end, (8, 4), at_end)
+    for asked in (9, 10, 11, 12, 13, 14):
+        yield done(RESIZE, 4, asked, BESIDE_FREE, (4, 14), full)
+    before_long = f"28 12 | 10 live {counted(4, 11)} | 16 0 {counted(14, 27)}"
+    part = f"28 20 | 18 live {counted(4, 11)} 16 0 {counted(14, 19)} | 8 0 {counted(22, 27)}"
+    whole = f"28 0 | 26 live {counted(4, 11)} 16 0 {counted(14, 27)}"
+    yield done(RESIZE, 4, 15, before_long, (4, 16), part)
+    yield done(RESIZE, 4, 16, before_long, (4, 16), part)
+    yield done(RESIZE, 4, 17, before_long, (4, 24), whole)
+    yield done(RESIZE, 4, 24, before_long, (4, 24), whole)
 
 
 def given_up_rows():
@@ -137,7 +130,10 @@ def list_place_rows():
 
 
 def long_resize_rows():
-    """In the longest arena a block of 8,190 words beside a free chunk grows, is cut to 100, cut by two, or kept."""
+    """In the longest arena a block of 8,190 words beside a free chunk grows, is cut to 100, cut by two, or kept.
+
+    It grows by part of the free chunk with eight words over, and by all of it with six.
+    """
     before = f"16384 8194 | 8192 live {counted(4, 8193)} | 8190 0 {counted(8196, 16383)}"
     grown = (f"16384 12004 | 12002 live {counted(4, 8193)} 8190 0 {counted(8196, 12003)}"
              f" | 4380 0 {counted(12006, 16383)}")
@@ -147,22 +143,26 @@ def long_resize_rows():
     two = f"16384 8192 | 8190 live {counted(4, 8191)} | 8192 0 8190 0 {counted(8196, 16383)}"
     yield done(RESIZE, 4, 8187, before, (4, 8188), two)
     yield done(RESIZE, 4, 8189, before, (4, 8190), before)
+    eight = (f"16384 16376 | 16374 live {counted(4, 8193)} 8190 0 {counted(8196, 16375)}"
+             f" | 8 0 {counted(16378, 16383)}")
+    yield done(RESIZE, 4, 16372, before, (4, 16372), eight)
+    whole = f"16384 0 | 16382 live {counted(4, 8193)} 8190 0 {counted(8196, 16383)}"
+    yield done(RESIZE, 4, 16373, before, (4, 16380), whole)
 
 
 def shorter_move_rows():
     """A move to a shorter block copies that many words: the size after them, another's or the old one's, stays."""
-    after = "22 2 | 4 14 1004 1005 | 4 live 1016 1017 | 4 live 1012 1013 | 8 0 1016 1017 1018 1019 1020 1021"
-    yield done(RELOCATE, 16, 2, BELOW_TWO, (8, 2), after)
-    yield done(RELOCATE, 16, 1, BELOW_TWO, (8, 2), after)
-    below_old = ("24 2 | 10 0 1004 1005 1006 1007 1008 1009 1010 1011 | 8 live 1014 1015 1016 1017 1018 1019"
-                 " | 4 live 1022 1023")
-    after_old = ("24 2 | 4 12 1004 1005 | 6 live 1014 1015 1016 1017 | 8 0 1014 1015 1016 1017 1018 1019"
-                 " | 4 live 1022 1023")
-    yield done(RELOCATE, 14, 4, below_old, (8, 4), after_old)
+    below_other = f"26 2 | 12 0 {counted(4, 13)} | 4 live 1016 1017 | 8 live {counted(20, 25)}"
+    after_other = f"26 2 | 8 18 {counted(4, 9)} | 4 live 1020 1021 | 4 live 1016 1017 | 8 0 {counted(20, 25)}"
+    yield done(RELOCATE, 20, 2, below_other, (12, 2), after_other)
+    yield done(RELOCATE, 20, 1, below_other, (12, 2), after_other)
+    below_old = f"28 2 | 14 0 {counted(4, 15)} | 8 live {counted(18, 23)} | 4 live 1026 1027"
+    after_old = f"28 2 | 8 16 {counted(4, 9)} | 6 live {counted(18, 21)} | 8 0 {counted(18, 23)} | 4 live 1026 1027"
+    yield done(RELOCATE, 18, 4, below_old, (12, 4), after_old)
 
 
 def long_move_rows():
-    """A block of 8,188 words moves to one of 8,190 with all its words, or to one of 4,000 with as many."""
+    """A block of 8,188 words moves to one of 8,190 with all its words, or to one of 8,182 or 4,000 with as many."""
     old = counted(8196, 16383)
     before = f"16384 2 | 8192 0 {counted(4, 8193)} | 8190 live {old}"
     whole = f"16384 8194 | 8192 live {old} 9192 9193 | 8190 0 {old}"
@@ -171,13 +171,17 @@ def long_move_rows():
     yield done(RELOCATE, 8196, 8189, before, (4, 8190), whole)
     yield done(REALLOC, 8196, 8189, before, (4, 8190), whole)
     yield done(RELOCATE, 8196, 4000, before, (4194, 4000), shorter)
+    eight = f"16384 2 | 8 8194 {counted(4, 9)} | 8184 live {counted(8196, 16377)} | 8190 0 {old}"
+    yield done(RELOCATE, 8196, 8182, before, (12, 8182), eight)
+    yield done(RELOCATE, 8196, 8183, before, (4, 8190), whole)
 
 
 def equal_move_rows():
     """A move to a block as long copies all words, however few were asked for; the old words join the gap below them."""
+    before = "22 2 | 8 0 1004 1005 1006 1007 1008 1009 | 4 live 1012 1013 | 8 live 1016 1017 1018 1019 1020 1021"
     after = "22 14 | 8 live 1016 1017 1018 1019 1020 1021 | 4 live 1012 1013 | 8 0 1016 1017 1018 1019 1020 1021"
-    yield done(RELOCATE, 16, 3, BELOW_TWO, (4, 6), after)
-    yield done(RELOCATE, 16, 6, BELOW_TWO, (4, 6), after)
+    for asked in (1, 2, 3, 6):
+        yield done(RELOCATE, 16, asked, before, (4, 6), after)
     between_free = "22 2 | 4 12 1004 1005 | 6 live 1008 1009 1010 1011 | 6 0 1014 1015 1016 1017 | 4 live 1020 1021"
     joined = "22 2 | 10 0 1004 1005 6 live 1008 1009 1010 1011 | 6 live 1008 1009 1010 1011 | 4 live 1020 1021"
     yield done(RELOCATE, 8, 4, between_free, (14, 4), joined)
@@ -185,18 +189,14 @@ def equal_move_rows():
 
 def gap_above_rows():
     """A move takes the top of the free chunk after its block, or all of it, where a resize would grow into that."""
-    before = ("22 6 | 4 live 1004 1005 | 12 0 1008 1009 1010 1011 1012 1013 1014 1015 1016 1017"
-              " | 4 live 1020 1021")
-    grown = ("22 8 | 6 live 1004 1005 12 0 | 10 0 1010 1011 1012 1013 1014 1015 1016 1017"
-             " | 4 live 1020 1021")
-    top = ("22 2 | 10 0 1004 1005 6 0 1008 1009 1010 1011 | 6 live 1004 1005 1016 1017"
-           " | 4 live 1020 1021")
-    whole = ("22 2 | 4 0 1004 1005 | 12 live 1004 1005 1010 1011 1012 1013 1014 1015 1016 1017"
-             " | 4 live 1020 1021")
+    before = f"24 6 | 4 live 1004 1005 | 14 0 {counted(8, 19)} | 4 live 1022 1023"
+    grown = f"24 8 | 6 live 1004 1005 14 0 | 12 0 {counted(10, 19)} | 4 live 1022 1023"
+    top = f"24 2 | 12 0 1004 1005 8 0 {counted(8, 13)} | 6 live 1004 1005 1018 1019 | 4 live 1022 1023"
+    whole = f"24 2 | 4 0 1004 1005 | 14 live 1004 1005 {counted(10, 19)} | 4 live 1022 1023"
     yield done(RESIZE, 4, 4, before, (4, 4), grown)
-    yield done(RELOCATE, 4, 4, before, (14, 4), top)
+    yield done(RELOCATE, 4, 4, before, (16, 4), top)
     yield done(REALLOC, 4, 4, before, (4, 4), grown)
-    yield done(RELOCATE, 4, 9, before, (8, 10), whole)
+    yield done(RELOCATE, 4, 5, before, (8, 12), whole)
 
 
 def swallowed_header_rows():
@@ -247,6 +247,165 @@ def order_rows():
         yield refused(call, 4, 4, damaged, 2)
         yield refused(call, 6, 0, odd, 1)
         yield refused(call, 4, 4, odd, 1)
+
+
+# Words that are over: two, four or six are granted with the need, eight or ten are split off, but before a free chunk
+# a block gives up any number. Each row is asked with an even number of words, and with the odd one below it.
+
+
+def over_in_alloc_rows():
+    """Alloc takes a free chunk of 14 words whole with up to six over, and its last words with eight or ten over."""
+    before = f"20 2 | 14 0 {counted(4, 15)} | 4 live 1018 1019"
+    whole = f"20 0 | 14 live {counted(4, 15)} | 4 live 1018 1019"
+    eight = f"20 2 | 8 0 {counted(4, 9)} | 6 live {counted(12, 15)} | 4 live 1018 1019"
+    ten = f"20 2 | 10 0 {counted(4, 11)} | 4 live 1014 1015 | 4 live 1018 1019"
+    for asked in range(5, 13):
+        yield done(ALLOC, 0, asked, before, (4, 12), whole)
+    for asked in (3, 4):
+        yield done(ALLOC, 0, asked, before, (12, 4), eight)
+    for asked in (1, 2):
+        yield done(ALLOC, 0, asked, before, (14, 2), ten)
+
+
+def over_before_live_rows():
+    """A block before a live chunk keeps up to six words that are over; eight or ten become a free chunk."""
+    before = f"20 0 | 14 live {counted(4, 15)} | 4 live 1018 1019"
+    eight = f"20 8 | 6 live {counted(4, 7)} | 8 0 {counted(10, 15)} | 4 live 1018 1019"
+    ten = f"20 6 | 4 live 1004 1005 | 10 0 {counted(8, 15)} | 4 live 1018 1019"
+    for call in (RESIZE, REALLOC):
+        for asked in range(5, 13):
+            yield done(call, 4, asked, before, (4, 12), before)
+        for asked in (3, 4):
+            yield done(call, 4, asked, before, (4, 4), eight)
+        for asked in (1, 2):
+            yield done(call, 4, asked, before, (4, 2), ten)
+
+
+def over_at_end_rows():
+    """A block at the end keeps up to six words that are over; eight or ten become the last free chunk."""
+    before = f"20 2 | 4 0 1004 1005 | 14 live {counted(8, 19)}"
+    eight = f"20 2 | 4 12 1004 1005 | 6 live {counted(8, 11)} | 8 0 {counted(14, 19)}"
+    ten = f"20 2 | 4 10 1004 1005 | 4 live 1008 1009 | 10 0 {counted(12, 19)}"
+    for call in (RESIZE, REALLOC):
+        for asked in range(5, 13):
+            yield done(call, 8, asked, before, (8, 12), before)
+        for asked in (3, 4):
+            yield done(call, 8, asked, before, (8, 4), eight)
+        for asked in (1, 2):
+            yield done(call, 8, asked, before, (8, 2), ten)
+
+
+def over_before_four_rows():
+    """A block before a free chunk of four words gives it all that are over, and takes nothing of it."""
+    before = f"20 16 | 14 live {counted(4, 15)} | 4 0 1018 1019"
+    left = {12: before,
+            10: f"20 14 | 12 live {counted(4, 13)} | 6 0 4 0 1018 1019",
+            8: f"20 12 | 10 live {counted(4, 11)} | 8 0 1014 1015 4 0 1018 1019",
+            6: f"20 10 | 8 live {counted(4, 9)} | 10 0 {counted(12, 15)} 4 0 1018 1019",
+            4: f"20 8 | 6 live {counted(4, 7)} | 12 0 {counted(10, 15)} 4 0 1018 1019",
+            2: f"20 6 | 4 live 1004 1005 | 14 0 {counted(8, 15)} 4 0 1018 1019"}
+    for call in (RESIZE, REALLOC):
+        for granted, after in left.items():
+            yield done(call, 4, granted, before, (4, granted), after)
+            yield done(call, 4, granted - 1, before, (4, granted), after)
+
+
+def over_before_ten_rows():
+    """A block before a free chunk of ten words gives it all that are over; its link goes with its start."""
+    behind = f"10 30 {counted(18, 25)} | 4 live 1028 1029 | 4 0 1032 1033"
+    before = f"34 16 | 14 live {counted(4, 15)} | {behind}"
+    left = {12: before,
+            10: f"34 14 | 12 live {counted(4, 13)} | 12 30 {behind}",
+            8: f"34 12 | 10 live {counted(4, 11)} | 14 30 1014 1015 {behind}",
+            6: f"34 10 | 8 live {counted(4, 9)} | 16 30 {counted(12, 15)} {behind}",
+            4: f"34 8 | 6 live {counted(4, 7)} | 18 30 {counted(10, 15)} {behind}",
+            2: f"34 6 | 4 live 1004 1005 | 20 30 {counted(8, 15)} {behind}"}
+    for call in (RESIZE, REALLOC):
+        for granted, after in left.items():
+            yield done(call, 4, granted, before, (4, granted), after)
+            yield done(call, 4, granted - 1, before, (4, granted), after)
+
+
+def over_in_grow_rows():
+    """A block grows by a whole free chunk of 14 words with up to six over; eight or ten over stay free at the top."""
+    behind = "4 live 1022 1023 | 4 0 1026 1027"
+    before = f"28 6 | 4 live 1004 1005 | 14 24 {counted(8, 19)} | {behind}"
+    whole = f"28 24 | 18 live 1004 1005 14 24 {counted(8, 19)} | {behind}"
+    eight = f"28 12 | 10 live 1004 1005 14 24 {counted(8, 11)} | 8 24 {counted(14, 19)} | {behind}"
+    ten = f"28 10 | 8 live 1004 1005 14 24 1008 1009 | 10 24 {counted(12, 19)} | {behind}"
+    for call in (RESIZE, REALLOC):
+        for asked in range(9, 17):
+            yield done(call, 4, asked, before, (4, 16), whole)
+        for asked in (7, 8):
+            yield done(call, 4, asked, before, (4, 8), eight)
+        for asked in (5, 6):
+            yield done(call, 4, asked, before, (4, 6), ten)
+
+
+def over_in_move_rows():
+    """A move takes a free chunk of 16 words whole with up to six over, and its last words with eight or ten over."""
+    before = f"22 2 | 16 0 {counted(4, 17)} | 4 live 1020 1021"
+    whole = f"22 18 | 16 live 1020 1021 {counted(6, 17)} | 4 0 1020 1021"
+    eight = f"22 2 | 8 18 {counted(4, 9)} | 8 live 1020 1021 {counted(14, 17)} | 4 0 1020 1021"
+    ten = f"22 2 | 10 18 {counted(4, 11)} | 6 live 1020 1021 1016 1017 | 4 0 1020 1021"
+    for asked in range(3, 15):
+        yield refused(RESIZE, 20, asked, before, 8)
+    for call in (RELOCATE, REALLOC):
+        for asked in range(7, 15):
+            yield done(call, 20, asked, before, (4, 14), whole)
+        for asked in (5, 6):
+            yield done(call, 20, asked, before, (12, 6), eight)
+        for asked in (3, 4):
+            yield done(call, 20, asked, before, (14, 4), ten)
+
+
+def short_gap_rows():
+    """Free chunks of four and of six words are granted where they fit, and passed over where they do not."""
+    low, high = "4 live 1008 1009", "4 live 1018 1019"
+    six, last = counted(12, 15), counted(22, 35)
+    before = f"36 2 | 4 10 1004 1005 | {low} | 6 20 {six} | {high} | 16 0 {last}"
+    split = f"8 0 {counted(22, 27)} | 8 live {counted(30, 35)}"
+    for asked, fields, after in (
+            (2, (4, 2), f"36 10 | 4 live 1004 1005 | {low} | 6 20 {six} | {high} | 16 0 {last}"),
+            (4, (12, 4), f"36 2 | 4 20 1004 1005 | {low} | 6 live {six} | {high} | 16 0 {last}"),
+            (6, (30, 6), f"36 2 | 4 10 1004 1005 | {low} | 6 20 {six} | {high} | {split}"),
+            (8, (22, 14), f"36 2 | 4 10 1004 1005 | {low} | 6 0 {six} | {high} | 16 live {last}")):
+        yield done(ALLOC, 0, asked, before, fields, after)
+        yield done(ALLOC, 0, asked - 1, before, fields, after)
+    yield refused(ALLOC, 0, 15, before, 6)
+
+
+def lowest_short_gap_rows():
+    """A free chunk of six words is granted whole to a request that needs four, though one of four lies above it."""
+    before = f"20 2 | 6 12 {counted(4, 7)} | 4 live 1010 1011 | 4 0 1014 1015 | 4 live 1018 1019"
+    taken = f"20 12 | 6 live {counted(4, 7)} | 4 live 1010 1011 | 4 0 1014 1015 | 4 live 1018 1019"
+    yield done(ALLOC, 0, 1, before, (4, 4), taken)
+    yield done(ALLOC, 0, 2, before, (4, 4), taken)
+
+
+def short_gap_move_rows():
+    """A block moves to a free chunk of six words, which it needs, or with two words over."""
+    before = f"16 2 | 6 0 {counted(4, 7)} | 4 live 1010 1011 | 4 live 1014 1015"
+    needed = "16 8 | 6 live 1010 1011 1006 1007 | 4 0 1010 1011 | 4 live 1014 1015"
+    two_over = "16 12 | 6 live 1014 1015 1006 1007 | 4 live 1010 1011 | 4 0 1014 1015"
+    yield done(RELOCATE, 10, 3, before, (4, 4), needed)
+    yield done(REALLOC, 10, 3, before, (4, 4), needed)
+    yield done(RELOCATE, 14, 1, before, (4, 4), two_over)
+    yield done(REALLOC, 14, 1, before, (14, 2), before)
+
+
+def small_free_rows():
+    """A block of four words or six that is freed between live ones is a free chunk of that size, which others join."""
+    lower, upper = counted(12, 15), counted(18, 23)
+    before = f"24 0 | 4 live 1004 1005 | 4 live 1008 1009 | 6 live {lower} | 8 live {upper}"
+    four = f"24 6 | 4 live 1004 1005 | 4 0 1008 1009 | 6 live {lower} | 8 live {upper}"
+    six = f"24 10 | 4 live 1004 1005 | 4 live 1008 1009 | 6 0 {lower} | 8 live {upper}"
+    yield done(FREE, 8, 0, before, (), four)
+    yield done(FREE, 12, 0, before, (), six)
+    yield refused(FREE, 8, 0, four, 3)
+    yield done(FREE, 12, 0, four, (), f"24 6 | 4 live 1004 1005 | 10 0 1008 1009 6 live {lower} | 8 live {upper}")
+    yield done(FREE, 8, 0, six, (), f"24 6 | 4 live 1004 1005 | 10 0 1008 1009 6 0 {lower} | 8 live {upper}")
+    yield done(FREE, 4, 0, six, (), f"24 2 | 4 10 1004 1005 | 4 live 1008 1009 | 6 0 {lower} | 8 live {upper}")
 
 
 def report_rows():
@@ -306,16 +465,18 @@ def lost_list_rows():
     yield refused(REPORT, 0, 0, "15 8 | 6 live 1004 1005 1006 1007 | 4 0 1010 1011 | 3 live 1014", 1)
 
 
-ROWS = [live_neighbour_rows, short_neighbour_rows, passed_neighbour_rows, lowest_gap_rows, grow_rows, cut_rows,
-        given_up_rows, list_place_rows, long_resize_rows, shorter_move_rows, long_move_rows, equal_move_rows,
-        gap_above_rows, swallowed_header_rows, refused_move_rows, order_rows, report_rows, short_list_rows,
+ROWS = [live_neighbour_rows, short_neighbour_rows, passed_neighbour_rows, lowest_gap_rows, grow_rows, given_up_rows,
+        list_place_rows, long_resize_rows, shorter_move_rows, long_move_rows, equal_move_rows, gap_above_rows,
+        swallowed_header_rows, refused_move_rows, order_rows, over_in_alloc_rows, over_before_live_rows,
+        over_at_end_rows, over_before_four_rows, over_before_ten_rows, over_in_grow_rows, over_in_move_rows,
+        short_gap_rows, lowest_short_gap_rows, short_gap_move_rows, small_free_rows, report_rows, short_list_rows,
         long_list_rows, long_gap_rows, lost_list_rows]
 
 
 def compare(chosen):
     """Every row through the model and through the program; the last line counts the rows."""
     count = run_rows(chosen.cases, [row for rows in ROWS for row in rows()])
-    return f"{count} rows of resize, the move, realloc and report compared with all their words"
+    return f"{count} rows of alloc, free, resize, the move, realloc and report compared with all their words"
 
 
 if __name__ == "__main__":

@@ -3,7 +3,7 @@
 from collections import Counter
 from random import Random
 
-from support import arenas, cases, driver, model
+from support import arenas, cases, driver, model, over
 from support.comparing import run_cases
 from support.pupil import way
 
@@ -27,11 +27,6 @@ WAYS = {"alloc": (-1, 0), "free": (-1, 0, 1),
         "resize kept": (0,), "resize cut": (0, 1), "resize grown": (-1, 0),
         "relocate longer": (-2, -1, 0, 1), "relocate shorter": (-2, -1, 0, 1), "relocate equal": (-2, -1, 0, 1)}
 
-# And for a block whose own words are enough: how many are over, and what comes right after it.
-OVER = ("none", "two", "four or more")
-AFTER = ("a live chunk", "the end", "the only free chunk", "the last free chunk", "a free chunk before others")
-SHRINKS = [("over", over, after) for over in OVER for after in AFTER]
-
 # And for a move every place of the gap that it takes, seen from the old block, and how much of it is taken.
 GAPS = [(place, much) for place in ("right below", "right above", "elsewhere") for much in ("whole", "in part")]
 
@@ -53,13 +48,19 @@ def block_for(random, arena):
     return random.choice(BIG + [3, 4, 5, length, length + 2, random.getrandbits(32), random.randrange(length + 3)])
 
 
+def few_over(random, words):
+    """A request that leaves none to twelve of so many words over, a header counted."""
+    most = words - model.HEADER
+    return random.randint(max(most - 13, 1), most)
+
+
 def asked_for(random, arena):
     """A number of words: near what the chunks have, near the limit, small, or any number."""
     length = len(arena.words)
     kind = random.random()
     gaps = [piece.size for piece in arena.chunks if not piece.live]
     if gaps and kind < 0.3:
-        return max(random.choice(gaps) - 2 - random.randint(0, 3), 0)
+        return few_over(random, random.choice(gaps))
     if arena.chunks and kind < 0.6:
         place = random.randrange(len(arena.chunks))
         together = sum(piece.size for piece in arena.chunks[place:place + random.choice([1, 1, 2])])
@@ -67,6 +68,15 @@ def asked_for(random, arena):
     if kind < 0.8:
         return random.randint(1, 12)
     return random.choice(BIG + [max(length - 4 + change, 0) for change in (-2, -1, 0, 1, 2)] + [random.getrandbits(32)])
+
+
+def asked_of(random, arena, block):
+    """A number of words for this block: near what it has, or has with the chunk after it, or as for any other."""
+    places = [at for at, piece in enumerate(arena.chunks) if piece.start + model.HEADER == block]
+    if not places or random.random() < 0.5:
+        return asked_for(random, arena)
+    together = arena.chunks[places[0]:places[0] + random.choice([1, 1, 2])]
+    return few_over(random, sum(piece.size for piece in together))
 
 
 def cases_for(random, number):
@@ -81,9 +91,20 @@ def cases_for(random, number):
 
 def cases_on(random, arena, call):
     """The call on this arena with some numbers; a realloc comes together with the two calls that it is made of."""
-    block, asked = block_for(random, arena), asked_for(random, arena)
+    block = block_for(random, arena)
+    asked = asked_of(random, arena, block)
     calls = cases.TOGETHER if call == cases.REALLOC else [call]
     return [cases.Case(each, block, asked, arena.words) for each in calls]
+
+
+def short_cases(random, count):
+    """An alloc, and the three calls for each block, on so many arenas of short blocks and gaps: few words are over."""
+    for _ in range(count):
+        arena = arenas.short_arena(random)
+        yield cases.Case(cases.ALLOC, 0, asked_for(random, arena), arena.words)
+        for block in [piece.start + model.HEADER for piece in arena.chunks if piece.live]:
+            asked = asked_of(random, arena, block)
+            yield from (cases.Case(call, block, asked, arena.words) for call in cases.TOGETHER)
 
 
 def long_cases(random, count):
@@ -115,33 +136,12 @@ def way_of(case, answer):
     return f"{name} {way(case.block, old_granted, block, granted)}"
 
 
-def shrunk(case, gaps):
-    """How many words are over where a block's own are enough, and what comes right after it; else nothing."""
-    start = case.block - model.HEADER
-    end = start + case.words[start]
-    over = case.words[start] - model.need_of(case.asked, len(case.words))
-    if over >= 0:
-        yield "over", OVER[min(over // 2, 2)], comes_after(end, len(case.words), gaps)
-
-
-def comes_after(end, length, gaps):
-    """What begins at a chunk's end, in an arena of this length; a free chunk with its place among the gaps."""
-    free = [gap for gap, room in gaps]
-    if end == length:
-        return "the end"
-    if end not in free:
-        return "a live chunk"
-    if len(free) == 1:
-        return "the only free chunk"
-    return "the last free chunk" if end == free[-1] else "a free chunk before others"
-
-
 def gap_taken(case, answer, gaps):
     """Which of the gaps a move took, seen from the old block, and how much of it."""
     block, granted = answer.fields
     start = case.block - model.HEADER
     end = start + case.words[start]
-    gap, room = [(gap, room) for gap, room in gaps if gap < block < gap + room][0]
+    gap, room = over.gap_around(block, gaps)
     place = "right below" if gap + room == start else "right above" if gap == end else "elsewhere"
     return place, "whole" if room == granted + model.HEADER else "in part"
 
@@ -165,8 +165,8 @@ def met_by_done(case, answer):
     """What a call that was done and can change the chunks shows besides."""
     gaps, gaps_after = [model.live_and_gaps(words)[1] for words in (case.words, answer.words)]
     yield way_of(case, answer), "free chunks", len(gaps_after) - len(gaps)
-    if case.call in (cases.RESIZE, cases.REALLOC):
-        yield from shrunk(case, gaps)
+    if case.call != cases.FREE:
+        yield from over.over_in(case, answer, gaps)
     if case.call == cases.RELOCATE:
         yield gap_taken(case, answer, gaps)
         yield "words copied", words_copied(case, answer).bit_length()
@@ -187,11 +187,14 @@ def unfinished(random, number):
 
 
 def wanted():
-    """What a run has to meet: codes of one call and of three together, ways to be done, shrinks, gaps taken, views."""
+    """What a run has to meet: codes of one call and of three together, ways to be done, words over, gaps taken, views.
+
+    How many words are over, and where, is told in over.py.
+    """
     codes = [(name, "code", code) for name, codes in CODES.items() for code in codes]
     ways = [(way, "free chunks", change) for way, changes in WAYS.items() for change in changes]
     together = [("together", codes) for codes in cases.CODES_TOGETHER]
-    return [*codes, *ways, *together, *SHRINKS, *GAPS, *COPIED, *PARTS]
+    return [*codes, *ways, *together, *over.WANTED, *GAPS, *COPIED, *PARTS]
 
 
 def compare(chosen):
@@ -204,6 +207,7 @@ def compare(chosen):
         numbers = range(done, done + min(AT_ONCE, max(chosen.count // BATCHES, 1)))
         asked = [case for number in numbers for case in cases_for(random, number)]
         asked += full_cases(random) if batch == BATCHES - 1 else []
+        asked += short_cases(random, len(numbers) // 20)
         asked += long_cases(random, len(numbers) // 50)
         answers = [cases.answer_to(case) for case in asked]
         run_cases(chosen.cases, asked, answers, unfinished(random, batch))

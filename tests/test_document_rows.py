@@ -1,4 +1,4 @@
-"""Holds the programs and the model to the rows of document 01, whose values are written out here."""
+"""Holds the programs and the model to document 01's rows, as item 6 of document 02 leaves them, written out here."""
 
 from support import cases, driver, lines, model, programs
 from support.cases import Case
@@ -6,22 +6,23 @@ from support.comparing import compare_own_cases, compare_replies, run_lines, run
 
 MARK = model.LIVE_MARK
 
-# "A whole run": input on the left, output on the right.
+# "A whole run": input on the left, output on the right. From 02000A on the replies are those of item 6 of document 02,
+# worked out again by hand: the six words that this request leaves over are granted with it, and so block 10 never is.
 WHOLE_RUN = """
 010020      0100
 020005      0200001A0006
 020001      020000160002
-02000A      0200000A000A
-05          05000006000400030001
+02000A      020000040010
+05          05000000000000030000
 030016      0300
 030016      0303
-020004      020000040004
-04000A000D  0400000A000E
-05          05000000000000030000
-020001      020600000000
+020004      020600000000
+04000A000D  040300000000
+05          05000004000200020001
+020001      020000160002
 04001A0007  040600000000
-03000A      0300
-02000B      0200000A000E
+03000A      0303
+02000B      020600000000
 02001D      020500000000
 020000      020400000000
 0Z          0007

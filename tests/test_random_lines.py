@@ -14,7 +14,12 @@ TYPED_LINES = 400
 
 # What the runs must have met to mean anything.
 CODES = {"01": (0, 1), "02": (0, 1, 4, 5, 6), "03": (0, 1, 3), "04": (0, 1, 3, 4, 5, 6), "05": (0, 1), "00": (7,)}
-WAYS = ("kept", "cut", "grown", "moved", "two kept", "two given up")
+WAYS = ("kept", "cut", "grown", "moved")
+
+# And how many words a new block, or a longer one, has besides those that it needs; and what became of those that a
+# shorter request left over, where ten stands for any more.
+BESIDES = [(done, "besides", count) for done in ("alloc", "grown", "moved") for count in (0, 2, 4, 6)]
+OVER = [("over", over, "kept") for over in (0, 2, 4, 6)] + [("over", over, "given up") for over in (2, 4, 6, 8, 10)]
 
 # How long the pieces are at most, in one run after the other.
 PIECES = [1, 3, 20, 500, 5000, 70000, 10**7]
@@ -78,7 +83,7 @@ def compare(chosen):
         done += len(lines.lines_of(text))
     if chosen.count >= LINES:
         codes = [(request, code) for request, codes in CODES.items() for code in codes]
-        driver.check_met(met, [*codes, *WAYS], 3, "lines")
+        driver.check_met(met, [*codes, *WAYS, *BESIDES, *OVER], 3, "lines")
     done += typed(random, chosen, min(TYPED_LINES, chosen.count))
     strange = list(strange_inputs(random))
     for text in strange:

@@ -21,21 +21,28 @@ def some_words(random, count, length):
     return [pool[byte % kinds] for byte in random.randbytes(count)]
 
 
-def random_pieces(random, length):
-    """Chunks that fill an arena of this lawful length, no two free ones side by side."""
-    most = random.choice([0, 2, 5, 8, 8, 8, 8, 20, length // 8, length // 2])
-    share = random.choice([0.1, 0.4, 0.4, 0.6, 0.9, 1])
+def pieces_of(random, sizes, share):
+    """Chunks of these sizes, about this share of them live, no two free ones side by side."""
     pieces = []
     start = FIRST_CHUNK
-    while start < length:
-        over = int(random.random() * (most + 1)) if random.random() < 0.5 else 0
-        size = LEAST_CHUNK + 2 * over
-        if start + size + LEAST_CHUNK > length:
-            size = length - start
+    for size in sizes:
         after_free = pieces and not pieces[-1].live
         pieces.append(Piece(start, size, bool(after_free) or random.random() < share))
         start += size
     return pieces
+
+
+def random_pieces(random, length):
+    """Chunks that fill an arena of this lawful length, no two free ones side by side."""
+    most = random.choice([0, 2, 5, 8, 8, 8, 8, 20, length // 8, length // 2])
+    sizes = []
+    left = length - FIRST_CHUNK
+    while left > 0:
+        more = int(random.random() * (most + 1)) if random.random() < 0.5 else 0
+        size = LEAST_CHUNK + 2 * more
+        sizes.append(size if size + LEAST_CHUNK <= left else left)
+        left -= sizes[-1]
+    return pieces_of(random, sizes, random.choice([0.1, 0.4, 0.4, 0.6, 0.9, 1]))
 
 
 def store_headers(words, pieces):
@@ -77,6 +84,12 @@ def arena_of(random, length, pieces):
 def sound_arena(random, length):
     """A sound arena of this lawful length."""
     return arena_of(random, length, random_pieces(random, length))
+
+
+def short_arena(random):
+    """A sound arena of one to six chunks, each of 4 to 18 words."""
+    sizes = [random.randrange(LEAST_CHUNK, 20, 2) for _ in range(random.randint(1, 6))]
+    return arena_of(random, FIRST_CHUNK + sum(sizes), pieces_of(random, sizes, 0.5))
 
 
 def long_arena(random):

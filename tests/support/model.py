@@ -1,4 +1,4 @@
-"""The rules for one arena, document 01's with Items 1, 3 and 5 of document 02: answers, and every word left.
+"""The rules for one arena, document 01's with Items 1, 3, 5 and 6 of document 02: answers, and every word left.
 
 The model shares nothing with the library. It reads an arena as the stretches of words that are live; what lies
 between them is free. A rule looks at these stretches and says what is answered and which of them change; around each
@@ -15,6 +15,9 @@ HEADER = 2
 LEAST_CHUNK = 4
 LEAST_ARENA = 6
 LONGEST_ARENA = 16384
+
+# So many words that are over, or more, are split off; fewer are a crumb, though a chunk may have 4 words, or 6.
+LEAST_SPLIT_OFF = 8
 
 DONE, LENGTH, DAMAGED, NOT_A_BLOCK, ZERO, TOO_LARGE, NO_ROOM, FRAME, WOULD_MOVE = range(9)
 TEXT_ROOM = 11
@@ -176,8 +179,9 @@ def need_of(asked, length):
 
 
 def taken_from(room, need):
-    """How much of the room a request takes: all of it when the rest would be no chunk."""
-    return need if room - need >= LEAST_CHUNK else room
+    """How much of the room a request takes: all of it when the rest would be a crumb."""
+    over = room - need
+    return room if over < LEAST_SPLIT_OFF else need
 
 
 def block_and_grant(start, size):
@@ -195,7 +199,7 @@ def start_rule(lent):
 
 
 def alloc_rule(lent, asked):
-    """The last words of the lowest gap that fits become a live chunk."""
+    """The last words of the lowest gap that fits become a live chunk, or all its words do."""
     live, gaps = lent.chunks()
     need = need_of(asked, len(lent.words))
     for gap, room in gaps:
@@ -214,7 +218,7 @@ def free_rule(lent, block):
 
 
 def kept_of(size, room, need):
-    """How much a block keeps that grows into its room, or shrinks: then a gap right above takes all the rest."""
+    """How much a block keeps that grows into its room, or shrinks: a gap right above then takes all the rest."""
     if need > size:
         return taken_from(room, need)
     return need if room > size else taken_from(size, need)

@@ -108,9 +108,14 @@ class Pupil:
         if request in (b"02", b"04"):
             block, granted = int(reply[4:8], 16), int(reply[8:12], 16)
             self.granted[block] = granted
+            asked = int(line[-4:], 16)
+        if request == b"02":
+            self.met[granted_besides("alloc", granted, asked)] += 1
         if request == b"04":
-            self.met[way(old_block, old_granted, block, granted)] += 1
-            self.met[two_over(old_block, old_granted, block, granted, int(line[6:10], 16))] += 1
+            done = way(old_block, old_granted, block, granted)
+            longer = done in ("grown", "moved")
+            self.met[done] += 1
+            self.met[granted_besides(done, granted, asked) if longer else left_over(old_granted, granted, asked)] += 1
 
 
 def way(old_block, old_granted, block, granted):
@@ -120,11 +125,18 @@ def way(old_block, old_granted, block, granted):
     return "kept" if granted == old_granted else "grown" if granted > old_granted else "cut"
 
 
-def two_over(old_block, old_granted, block, granted, asked):
-    """What became of two words that a shorter request left over: only a gap right above takes so few."""
-    if block != old_block or old_granted - asked - asked % 2 != 2:
-        return "not two over"
-    return "two kept" if granted == old_granted else "two given up"
+def granted_besides(done, granted, asked):
+    """How many words a new block, or a longer one, has besides those that it needs: eight would have stayed free."""
+    return done, "besides", granted - asked - asked % 2
+
+
+def left_over(old_granted, granted, asked):
+    """How many words a shorter request left over, ten for any more, and what became of them.
+
+    Eight or more are given up, and fewer only to a gap right above.
+    """
+    over = min(old_granted - asked - asked % 2, 10)
+    return "over", over, "kept" if granted == old_granted else "given up"
 
 
 def mistyped(random, line):

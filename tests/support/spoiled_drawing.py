@@ -30,7 +30,7 @@ SPOILED = [
     (replaced("docs/experiment.svg", "black", "grey"), "docs/experiment.svg is not what is drawn"),
     (lab("size        64    0     0      0       40", "size        64    0     0      0       38"),
      "experiment.stdout is not drawn"),
-    (lab("18   60     6", "18   60     8"), "experiment.stdout: request 34 has Record("),
+    (lab("22   56     6", "22   56     8"), "experiment.stdout: request 34 has Record("),
     (lab("     40  realloc     90   30     0     90       30\n", ""), "experiment.stdout has 39 requests"),
     (lab_tool("record, old.alloc", "record, 0"), "docs/experiment.svg is not what is drawn"),
     (lab_tool("0.7 * new.granted", "0.6 * new.granted"), "docs/experiment.svg is not what is drawn"),

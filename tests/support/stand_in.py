@@ -30,31 +30,95 @@ def word(reply):
 REPLY_FAULTS = {"digit": digit, "word": word, "missing": lambda reply: b"", "extra": lambda reply: reply + reply}
 
 
+def split_from(least):
+    """Splits off so many words that are over, or more."""
+    model.taken_from = lambda room, need: need if room - need >= least else room
+
+
+def split_only_in(rule, least, when=lambda *given: True):
+    """Splits off so many words that are over, or more, but only in this rule of the model, where `when` holds."""
+    true_rule, true_taken = getattr(model, rule), model.taken_from
+
+    def spoiled(*given):
+        if when(*given):
+            split_from(least)
+        try:
+            return true_rule(*given)
+        finally:
+            model.taken_from = true_taken
+
+    setattr(model, rule, spoiled)
+
+
 def cut_tail_of_two():
     """Cuts off a tail of two words as a chunk."""
-    model.taken_from = lambda room, need: need if room - need >= 2 else room
+    split_from(2)
 
 
 def cut_tail_in_place():
     """Cuts off a tail of two words as a chunk, but only of a block that stays where it stands."""
-    true_stayed, true_taken = model.stayed, model.taken_from
-
-    def stayed(lent, block, asked):
-        cut_tail_of_two()
-        try:
-            return true_stayed(lent, block, asked)
-        finally:
-            model.taken_from = true_taken
-
-    model.stayed = stayed
+    split_only_in("stayed", 2)
 
 
-def keep_two_words():
-    """Keeps two words that are over in a shrink, beside a gap too."""
+def split_off_four():
+    """Splits off four words or more, as before item 6 of document 02."""
+    split_from(4)
+
+
+def split_off_six():
+    """Splits off six words, which are too few."""
+    split_from(6)
+
+
+def grant_eight_over():
+    """Splits off ten words or more, and grants eight with the need."""
+    split_from(10)
+
+
+def split_off_four_in_alloc():
+    """Splits off four words or more, but only of a chunk that is granted by alloc, or to a block that moves."""
+    split_only_in("alloc_rule", 4)
+
+
+def split_off_four_in_grow():
+    """Splits off four words or more, but only of the room of a block that grows."""
+    split_only_in("kept_of", 4, lambda size, room, need: need > size)
+
+
+def split_off_four_in_shrink():
+    """Splits off four words or more, but only of a block that shrinks."""
+    split_only_in("kept_of", 4, lambda size, room, need: need <= size)
+
+
+def keep_beside_gap():
+    """Keeps two, four or six words that are over in a shrink, beside a gap too."""
     def kept_of(size, room, need):
         return model.taken_from(size if need <= size else room, need)
 
     model.kept_of = kept_of
+
+
+def take_whole_room():
+    """Takes the whole room of a block where fewer than eight words of that are over, in a shrink too."""
+    model.kept_of = lambda size, room, need: model.taken_from(room, need)
+
+
+def refuse_small_chunks():
+    """Holds an arena with a chunk of four words, or six, to be damaged."""
+    model.LEAST_CHUNK = 8
+
+
+def skip_small_gaps():
+    """Passes over free chunks of four words, and six, where a request would fit them."""
+    true_alloc = model.alloc_rule
+
+    def alloc_rule(lent, asked):
+        live, gaps = lent.chunks()
+        larger = model.Lent(lent.words)
+        larger.kept = live, [(gap, room) for gap, room in gaps if room >= 8]
+        return true_alloc(larger, asked)
+
+    model.alloc_rule = alloc_rule
 
 
 def spoil_shrink(spoil):
@@ -253,8 +317,11 @@ def largest_with_header():
     count_in_report(header=0)
 
 
-RULE_FAULTS = {"tail": cut_tail_of_two, "cut": cut_tail_in_place, "two": keep_two_words, "link": leave_link,
-               "wipe": clear_old_header, "believe": believe_words_before,
+RULE_FAULTS = {"tail": cut_tail_of_two, "cut": cut_tail_in_place, "four": split_off_four, "six": split_off_six,
+               "ten": grant_eight_over, "alloc": split_off_four_in_alloc, "grow": split_off_four_in_grow,
+               "shrink": split_off_four_in_shrink, "keeps": keep_beside_gap, "room": take_whole_room,
+               "small": refuse_small_chunks, "skips": skip_small_gaps,
+               "link": leave_link, "wipe": clear_old_header, "believe": believe_words_before,
                "clear": clear_swallowed_header, "early": free_before_move, "less": copy_one_word_less,
                "all": copy_all_old_words, "asked": copy_words_asked, "byte": copy_count_of_a_byte,
                "stays": stay_in_move, "moves": move_in_resize, "never": never_move, "order": would_move_first,

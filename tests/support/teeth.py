@@ -13,9 +13,12 @@ from .driver import Difference
 from .picture_faults import PICTURE_FAULTS
 from .stand_in import LATE
 
-# What a stand-in can do wrong in a resize, a move, or the realloc that is made of them.
-ANOTHER_LENGTH = ["tail", "cut", "two", "link", "wipe", "early", "less", "all", "asked", "stays", "moves", "never",
-                  "order", "lacks", "stores"]
+# What a stand-in can do wrong with words that are over, or with chunks that are smaller than what is split off.
+OVER = ["tail", "four", "six", "ten", "alloc", "grow", "shrink", "keeps", "room", "small", "skips"]
+
+# What it can do wrong besides in a resize, a move, or the realloc that is made of them.
+ANOTHER_LENGTH = ["cut", "link", "wipe", "early", "less", "all", "asked", "stays", "moves", "never", "order", "lacks",
+                  "stores"]
 
 # What it can do wrong in any report. (A list followed for 255 links only, "manylinks", takes a longer list to be seen.)
 ANOTHER_COUNT = ["lastlink", "last", "header"]
@@ -29,21 +32,23 @@ BOTH = "test_document_rows"
 # The trials, by what the drivers compare: rows by hand, long runs of lines, single calls on many arenas, pictures,
 # batches of plain words. (Batches from C are tried on spoiled copies.)
 ROWS = [
-    Trial(BOTH, 1, "board", ["digit", "missing", "extra", "tail", *ANOTHER_COUNT]),
+    Trial(BOTH, 1, "board", ["digit", "missing", "extra", "tail", "four", "six", "alloc", "small", "skips",
+                              *ANOTHER_COUNT]),
     Trial(BOTH, 1, "cases", ["word", "missing", "extra", *ANOTHER_COUNT]),
-    Trial("test_pages", 1, "board", ["digit", "missing", "tail", *ANOTHER_COUNT]),
+    Trial("test_pages", 1, "board", ["digit", "missing", "tail", "four", *ANOTHER_COUNT]),
     Trial("test_call_rows", 1, "cases", ["word", "missing", "extra", "believe", "clear", "byte", "manylinks",
-                                         *ANOTHER_COUNT, *ANOTHER_LENGTH]),
+                                         *ANOTHER_COUNT, *OVER, *ANOTHER_LENGTH]),
 ]
 LINES = [
-    Trial("test_random_lines", 3000, "board", ["digit", "missing", "extra", "tail", "two", "link", "early", "never",
-                                               LATE, *ANOTHER_COUNT]),
-    Trial("test_full_board", 1, "board", ["digit", "manylinks"]),
+    Trial("test_random_lines", 3000, "board", ["digit", "missing", "extra", "link", "early", "never", LATE, *OVER,
+                                               *ANOTHER_COUNT]),
+    Trial("test_full_board", 1, "board", ["digit", "manylinks", "six", "shrink"]),
 ]
 ARENAS = [
-    Trial("test_small_arenas", 10000, "cases", ["word", "missing", "extra", "clear", *ANOTHER_COUNT, *ANOTHER_LENGTH]),
+    Trial("test_small_arenas", 10000, "cases", ["word", "missing", "extra", "clear", *ANOTHER_COUNT, *OVER,
+                                                *ANOTHER_LENGTH]),
     Trial("test_damaged_arenas", 3000, "cases", ["word", "missing", "extra", "believe", "clear", "manylinks",
-                                                 *ANOTHER_COUNT, *ANOTHER_LENGTH]),
+                                                 *ANOTHER_COUNT, *OVER, *ANOTHER_LENGTH]),
 ]
 BATCHES = [Trial("test_batch", 12, "batch_cases", ["word", "missing", *BATCH_FAULTS])]
 PICTURES = [Trial("test_pictures", 300, "picture_cases", ["word", "missing", "extra", *PICTURE_FAULTS])]

@@ -32,7 +32,7 @@ greatestLength = 16384
 
 -- if this many words or more are left over, they are split off as a chunk of their own
 abbrev pub leastSplit : ℕ
-leastSplit = 4
+leastSplit = 8
 
 -- what fits a word is below this number
 abbrev pub wordValues : ℕ

@@ -22,7 +22,7 @@ pub const LEAST_LENGTH: usize = 6;
 
 pub const GREATEST_LENGTH: usize = 16384;
 // If this many words or more are left over, they are split off as a chunk of their own.
-pub const LEAST_SPLIT: usize = 4;
+pub const LEAST_SPLIT: usize = 8;
 // The second word of a live chunk.
 pub const LIVE_MARK: u32 = 4294967295;
 

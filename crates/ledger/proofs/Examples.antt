@@ -67,22 +67,22 @@ entry block granted = record { block = block; granted = granted }
 abbrev row : Call → ℕ → List ℕ → Call × Answer
 row c code values = (c, record { code = code; values = values })
 
--- the rows after the start in which a call is made, each beside the document's own
+-- the rows after the start in which a call is made, each beside its line and its reply
 abbrev rows : List (Call × Answer)
 rows =
     row (alloc 5) 0 (26 ∷ 6 ∷ [])  -- 020005: 0200001A0006
     ∷ row (alloc 1) 0 (22 ∷ 2 ∷ [])  -- 020001: 020000160002
-    ∷ row (alloc 10) 0 (10 ∷ 10 ∷ [])  -- 02000A: 0200000A000A
-    ∷ row report 0 (6 ∷ 4 ∷ 3 ∷ 1 ∷ [])  -- 05: 05000006000400030001
+    ∷ row (alloc 10) 0 (4 ∷ 16 ∷ [])  -- 02000A: 020000040010
+    ∷ row report 0 (0 ∷ 0 ∷ 3 ∷ 0 ∷ [])  -- 05: 05000000000000030000
     ∷ row (free 22) 0 []  -- 030016: 0300
     ∷ row (free 22) 3 []  -- 030016: 0303
-    ∷ row (alloc 4) 0 (4 ∷ 4 ∷ [])  -- 020004: 020000040004
-    ∷ row (realloc 10 13) 0 (10 ∷ 14 ∷ [])  -- 04000A000D: 0400000A000E
-    ∷ row report 0 (0 ∷ 0 ∷ 3 ∷ 0 ∷ [])  -- 05: 05000000000000030000
-    ∷ row (alloc 1) 6 (0 ∷ 0 ∷ [])  -- 020001: 020600000000
+    ∷ row (alloc 4) 6 (0 ∷ 0 ∷ [])  -- 020004: 020600000000
+    ∷ row (realloc 10 13) 3 (0 ∷ 0 ∷ [])  -- 04000A000D: 040300000000
+    ∷ row report 0 (4 ∷ 2 ∷ 2 ∷ 1 ∷ [])  -- 05: 05000004000200020001
+    ∷ row (alloc 1) 0 (22 ∷ 2 ∷ [])  -- 020001: 020000160002
     ∷ row (realloc 26 7) 6 (0 ∷ 0 ∷ [])  -- 04001A0007: 040600000000
-    ∷ row (free 10) 0 []  -- 03000A: 0300
-    ∷ row (alloc 11) 0 (10 ∷ 14 ∷ [])  -- 02000B: 0200000A000E
+    ∷ row (free 10) 3 []  -- 03000A: 0303
+    ∷ row (alloc 11) 6 (0 ∷ 0 ∷ [])  -- 02000B: 020600000000
     ∷ row (alloc 29) 5 (0 ∷ 0 ∷ [])  -- 02001D: 020500000000
     ∷ row (alloc 0) 4 (0 ∷ 0 ∷ [])  -- 020000: 020400000000
     ∷ []
@@ -110,7 +110,7 @@ unfolding startOn allocBy freeOn regrantBy reportOn arenaGate requestGate sound 
 table-answers = refl
 
 -- three blocks are held at the end
-pub table-ledger : afterAll (map call rowCalls) fresh .ledger ≡ entry 4 4 ∷ entry 10 14 ∷ entry 26 6 ∷ []
+pub table-ledger : afterAll (map call rowCalls) fresh .ledger ≡ entry 4 16 ∷ entry 22 2 ∷ entry 26 6 ∷ []
 unfolding startOn allocBy freeOn regrantBy reportOn arenaGate requestGate sound chunksOf walked walkFrom walk meet lowest joined copied written write
     header enter strike
 table-ledger = refl
@@ -154,13 +154,13 @@ unfolding startOn allocBy freeOn regrantBy reportOn arenaGate requestGate sound 
     header enter strike wanted batchBy
 records-ledger = refl
 
--- what the first five rows after the start leave: blocks 10 and 26, and the gaps below, between and above them
-pub fifth-ledger : afterAll (map call (take 5 rowCalls)) fresh .ledger ≡ entry 10 10 ∷ entry 26 6 ∷ []
+-- what the first five rows after the start leave: blocks 4 and 26, and the gaps below, between and above them
+pub fifth-ledger : afterAll (map call (take 5 rowCalls)) fresh .ledger ≡ entry 4 16 ∷ entry 26 6 ∷ []
 unfolding startOn allocBy freeOn regrantBy reportOn arenaGate requestGate sound chunksOf walked walkFrom walk meet lowest joined copied written write
     header enter strike
 fifth-ledger = refl
 
-pub fifth-gaps : gaps 32 (afterAll (map call (take 5 rowCalls)) fresh .ledger) ≡ 6 ∷ 4 ∷ 0 ∷ []
+pub fifth-gaps : gaps 32 (afterAll (map call (take 5 rowCalls)) fresh .ledger) ≡ 0 ∷ 4 ∷ 0 ∷ []
 fifth-gaps = ap (gaps 32) fifth-ledger
 
 -- ---- what was stored last, over the events of the runs below

@@ -2,14 +2,14 @@
 use Prim.Native.Nat.{ℕ, _+_, _-_, _≤_}
 use mathlib.Core.Path.{_≡_, refl, _∙_, ap}
 use mathlib.Core.Logic.{_≢_, inl, ⊎-elim}
-use mathlib.Core.Bool.{true, cond}
+use mathlib.Core.Bool.{Bool, true, false, cond}
 use mathlib.Core.List.{List, [], _∷_}
 use native.Mathlib.Nat.{add-zero}
 use native.Mathlib.Omega.{arith}
-use lib.Dec.{eqb}
+use lib.Dec.{eqb, ltb}
 use lib.ListN.{length, getD, set, replicate, length-replicate}
-use borrow.Author.Tests.{le-leb}
-use Rattle.layout.specs.Numbers.{controlWords, lawful, greatestRequest, need}
+use borrow.Author.Tests.{le-leb, ltb-true, ltb-false}
+use Rattle.layout.specs.Numbers.{controlWords, headerWords, lawful, greatestRequest, need}
 use Rattle.layout.specs.Chunks.{header, write, written}
 use Rattle.layout.specs.Walk.{meet, walk, walkFrom, walked, sound, chunksOf}
 use Rattle.layout.specs.Reasons.{arenaGate, requestGate}
@@ -17,18 +17,20 @@ use Rattle.rules.specs.Answers.{Answer, Outcome, success}
 use Rattle.rules.specs.Pictures.{pictureOf, pictureLength, Says}
 use Rattle.rules.specs.Spots.{lowest}
 use Rattle.rules.specs.Rules.{joined, copied}
+use Rattle.rules.specs.Crumbs.{crumb}
 use Rattle.rules.specs.Calls.{startOn, allocBy, freeOn, regrantBy, sizeOn, reportOn}
 use Rattle.rules.specs.Libraries.{Call, start, alloc, free, resize, relocate, realloc, size, view, report, write as writePicture, read}
 use Rattle.rules.specs.Libraries.{Library, ours}
+use Rattle.rules.proofs.Crumbs.{a-crumb}
 use Rattle.rules.proofs.Pictures.{picture-length}
 use Rattle.rules.proofs.Saying.{said-says, picture-says}
 use Rattle.ledger.specs.Events.{call, store}
 use Rattle.ledger.specs.Gaps.{RoomShorter}
-use Rattle.ledger.specs.Ledger.{enter, strike, told, Done, Held, begins, ends}
+use Rattle.ledger.specs.Ledger.{Entry, enter, strike, told, Done, Held, begins, ends}
 use Rattle.ledger.specs.Runs.{State, Allowed, after, Run, begun, arrived, next}
 use Rattle.ledger.specs.Holders.{just, pictured, still}
 use Rattle.ledger.specs.Demands.{Starts, Receives, Lengths, Apart, Inside, Keeps, Lasts, Sums, RoomForAlloc, RoomForResize, RoomForRelocate}
-use Rattle.ledger.specs.Demands.{RoomForRealloc, ShrinksToNeed, freeWordsIn, liveBlocksIn, Known}
+use Rattle.ledger.specs.Demands.{RoomForRealloc, ShrinksToNeed, LeavesCrumbs, freeWordsIn, liveBlocksIn, Known}
 use Rattle.ledger.proofs.Examples.{clash}
 
 -- ---- what the room rule asks of a new arena: its first alloc is done
@@ -54,9 +56,9 @@ has-once library room a w l fits =
 in-six : (library : Library) → RoomForAlloc library alloc → Once library (replicate 6 0) 2
 in-six library room = has-once library room (replicate 6 0) 2 refl (omega arith)
 
--- and a new arena of 16 words
-in-sixteen : (library : Library) → RoomForAlloc library alloc → Once library (replicate 16 0) 2
-in-sixteen library room = has-once library room (replicate 16 0) 2 refl (omega arith)
+-- and a new arena of 32 words
+in-thirty-two : (library : Library) → RoomForAlloc library alloc → Once library (replicate 32 0) 2
+in-thirty-two library room = has-once library room (replicate 32 0) 2 refl (omega arith)
 
 -- if the library grants enough, the block in the 6 words has room for the words that it has
 own-room : (library : Library) → RoomForAlloc library alloc → Known library
@@ -83,24 +85,24 @@ refuses-start library refuses starts = refuses start _ (starts (replicate 6 0) r
 abbrev pub GrantsBlockFour : Library → Type 0
 GrantsBlockFour library = (w : ℕ) (a : List ℕ) → Done (library (alloc w) a .answer) → told (library (alloc w) a .answer) .block ≡ 4
 
--- if it keeps the room rule and grants just the need, its blocks overlap: of 16 words, the first block leaves room for
+-- if it keeps the room rule and grants just the need, its blocks overlap: of 32 words, the first block leaves room for
 -- a second
 pub grants-block-four : (library : Library) → GrantsBlockFour library → RoomForAlloc library alloc → Known library → Apart library → ⊥
 unfolding enter
 grants-block-four library four room known apart =
-    let o = in-sixteen library room in
-    let first = library (alloc 2) (library start (replicate 16 0) .words) in
+    let o = in-thirty-two library room in
+    let first = library (alloc 2) (library start (replicate 32 0) .words) in
     let second = library (alloc 2) (first .words) in
     let is : told (first .answer) .block ≡ 4 = four 2 _ (o .done) in
-    let small = known 16 _ (o .started) .alloc-grants 2 (o .done) in
-    let done : Done (second .answer) = room 16 _ (o .once) 2 (omega arith) .done .1 (λ short. omega (arith, is, small)) in
+    let small = known 32 _ (o .started) .alloc-grants 2 (o .done) in
+    let done : Done (second .answer) = room 32 _ (o .once) 2 (omega arith) .done .1 (λ short. omega (arith, is, small)) in
     let same : told (second .answer) .block ≡ 4 = four 2 _ done in
     let twice = rw done at (next (o .once) (call (alloc 2)) tt) in
     omega (
       arith,
       is,
       same,
-      apart 16 _ twice [] [] [] (told (second .answer)) (told (first .answer))
+      apart 32 _ twice [] [] [] (told (second .answer)) (told (first .answer))
           (rw (le-leb (told (second .answer) .block) (told (first .answer) .block) (omega arith))),
     )
 
@@ -209,11 +211,51 @@ abbrev pub GrantsEverything : Library → Type 0
 GrantsEverything library = (w : ℕ) (a : List ℕ) → Done (library (alloc w) a .answer)
     → told (library (alloc w) a .answer) .granted ≡ greatestRequest (length a)
 
--- if it keeps the room rule and its arena's length, it grants too much: of 16 words, a request for 2 has 12
+-- if it keeps the room rule and its arena's length, it grants too much: of 32 words, a request for 2 has 28
 pub grants-everything : (library : Library) → GrantsEverything library → Lengths library → RoomForAlloc library alloc → Known library → ⊥
 grants-everything library all lengths room known =
-    let o = in-sixteen library room in
-    omega (arith, all 2 _ (o .done), lengths 16 _ (o .started), known 16 _ (o .started) .alloc-grants 2 (o .done))
+    let o = in-thirty-two library room in
+    omega (arith, all 2 _ (o .done), lengths 32 _ (o .started), known 32 _ (o .started) .alloc-grants 2 (o .done))
+
+-- ---- one that grants just the need
+
+-- an alloc that is done grants just its need, and leaves all that is over, whatever else it does
+abbrev pub GrantsJustTheNeed : Library → Type 0
+GrantsJustTheNeed library = (w : ℕ) (a : List ℕ) → Done (library (alloc w) a .answer)
+    → headerWords + told (library (alloc w) a .answer) .granted ≡ need w
+
+-- if it keeps the room rule and its blocks lie inside, it leaves a crumb: of 12 words, a request for 2 leaves 6
+pub grants-just-the-need : (library : Library) → GrantsJustTheNeed library → RoomForAlloc library alloc → Inside library
+    → LeavesCrumbs library (alloc 2) 0 → ⊥
+unfolding enter
+grants-just-the-need library exact room inside leaves = go (ltb 0 below) refl
+  where
+    o : Once library (replicate 12 0) 2
+    o = has-once library room (replicate 12 0) 2 refl (omega arith)
+
+    e : Entry
+    e = told (library (alloc 2) (library start (replicate 12 0) .words) .answer)
+
+    below : ℕ
+    below = begins e - 2
+
+    above : ℕ
+    above = 12 - ends e
+
+    within : (2 ≤ begins e) × (ends e ≤ 12)
+    within = inside 12 _ (o .once) e (inl refl)
+
+    none : crumb below + (crumb above + 0) ≤ 0
+    none = rw (o .done) at (leaves 12 _ (o .started))
+
+    go : (some : Bool) → ltb 0 below ≡ some → ⊥
+    go true is = omega (arith, none, a-crumb below (ltb-true 0 below is) (omega (arith, exact 2 _ (o .done), within)))
+    go false is =
+        omega (
+          arith,
+          none,
+          a-crumb above (omega (arith, ltb-false 0 below is, exact 2 _ (o .done), within)) (omega (arith, exact 2 _ (o .done), within)),
+        )
 
 -- ---- one that never frees
 
@@ -282,13 +324,13 @@ withResize other (read text) a = ours (read text) a
 abbrev pub resizeReallocates : Library
 resizeReallocates = withResize (λ b w a. ours (realloc b w) a)
 
--- a block is known to stay: of 16 words, block 10 has no room above it, and the resize answers block 4
+-- a block is known to stay: of 20 words, block 14 has no room above it, and the resize answers block 4
 pub resize-reallocates : Known resizeReallocates → ⊥
 unfolding startOn allocBy regrantBy arenaGate requestGate sound chunksOf walked walkFrom walk meet lowest joined copied written write header enter
     strike
 resize-reallocates known =
-    let held : Run resizeReallocates 16 _ = next (next (begun (replicate 16 0) refl refl) (call (alloc 2)) tt) (call (alloc 2)) tt in
-    let stays : _≡_ {A = ℕ} 4 10 = known 16 _ held .resize-stays 10 4 refl in
+    let held : Run resizeReallocates 20 _ = next (next (begun (replicate 20 0) refl refl) (call (alloc 2)) tt) (call (alloc 2)) tt in
+    let stays : _≡_ {A = ℕ} 4 14 = known 20 _ held .resize-stays 14 4 refl in
     omega arith
 
 -- ---- one that loses two words when shrinking
@@ -323,16 +365,16 @@ NeverRelocates library = (b w : ℕ) (a : List ℕ) → Done (library (relocate 
 abbrev pub RelocateStays : Library → Type 0
 RelocateStays library = (b w : ℕ) (a : List ℕ) → Done (library (relocate b w) a .answer) → told (library (relocate b w) a .answer) .block ≡ b
 
--- of a library that keeps the room rules of alloc and relocate and grants just the need, a relocate is done: of 16
+-- of a library that keeps the room rules of alloc and relocate and grants just the need, a relocate is done: of 32
 -- words, the first block leaves room for a second
 a-relocate : (library : Library) → RoomForAlloc library alloc → Known library → RoomForRelocate library relocate
-    → let a = library start (replicate 16 0) .words in let first = library (alloc 2) a in
+    → let a = library start (replicate 32 0) .words in let first = library (alloc 2) a in
     Done (library (relocate (told (first .answer) .block) 2) (first .words) .answer)
 a-relocate library room known relocates =
-    let o = in-sixteen library room in
-    let e = told (library (alloc 2) (library start (replicate 16 0) .words) .answer) in
-    let small = known 16 _ (o .started) .alloc-grants 2 (o .done) in
-    relocates 16 _ (o .once) e (inl refl) 2 (omega arith) .done .1 (λ short. omega (arith, short, small))
+    let o = in-thirty-two library room in
+    let e = told (library (alloc 2) (library start (replicate 32 0) .words) .answer) in
+    let small = known 32 _ (o .started) .alloc-grants 2 (o .done) in
+    relocates 32 _ (o .once) e (inl refl) 2 (omega arith) .done .1 (λ short. omega (arith, short, small))
 
 -- so it cannot be one that never relocates
 pub never-relocates : (library : Library) → NeverRelocates library → RoomForAlloc library alloc → Known library → RoomForRelocate library relocate → ⊥
@@ -342,7 +384,7 @@ never-relocates library refuses room known relocates = refuses _ 2 _ (a-relocate
 pub relocate-stays : (library : Library) → RelocateStays library → RoomForAlloc library alloc → Known library → RoomForRelocate library relocate → ⊥
 relocate-stays library stays room known relocates =
     let done = a-relocate library room known relocates in
-    known 16 _ (in-sixteen library room .once) .relocate-moves _ 2 done (stays _ 2 _ done)
+    known 32 _ (in-thirty-two library room .once) .relocate-moves _ 2 done (stays _ 2 _ done)
 
 -- ---- one that hands back words of any number
 
@@ -360,13 +402,13 @@ views-everything library hands known = hands 4 _ (known 6 _ (begun (replicate 6 
 abbrev pub copiesNothing : Library
 copiesNothing c a = record { answer = ours c a .answer; words = written (chunksOf (ours c a .words)) a }
 
--- a block does not keep its words: of 16 words, block 10 holds a 5 and is moved to block 4
+-- a block does not keep its words: of 20 words, block 14 holds a 5 and is moved to block 4
 pub copies-nothing : Keeps copiesNothing → ⊥
 unfolding startOn allocBy regrantBy arenaGate requestGate sound chunksOf walked walkFrom walk meet lowest joined copied written write header enter
     strike
 copies-nothing keeps =
-    let held : Run copiesNothing 16 _ = next (next (begun (replicate 16 0) refl refl) (call (alloc 2)) tt) (call (alloc 2)) tt in
-    let stored : Run copiesNothing 16 _ = next held (store 10 0 5) ((record { block = 10; granted = 2 }, inl refl, refl, omega arith), omega arith) in
+    let held : Run copiesNothing 20 _ = next (next (begun (replicate 20 0) refl refl) (call (alloc 2)) tt) (call (alloc 2)) tt in
+    let stored : Run copiesNothing 20 _ = next held (store 14 0 5) ((record { block = 14; granted = 2 }, inl refl, refl, omega arith), omega arith) in
     ⊎-elim
     (λ ended. ⊎-elim (λ is. clash cc) (λ is. clash cc) (ended .1))
     (λ goes.
@@ -375,7 +417,7 @@ copies-nothing keeps =
     ⊎-elim (λ is. rw (← is) (omega arith)) (⊎-elim (λ is. rw (← is) (omega arith)) (λ none. absurd none)) (goes .listed) in
     let lost : _≡_ {A = ℕ} 0 5 = rw moved at (goes .words-kept 0 (omega arith)) in
     omega arith)
-    (keeps 16 _ stored (call (realloc 10 4)) tt (record { block = 10; granted = 2 }) (inl refl))
+    (keeps 20 _ stored (call (realloc 14 4)) tt (record { block = 14; granted = 2 }) (inl refl))
 
 -- ---- one that clears a block when its size is asked
 

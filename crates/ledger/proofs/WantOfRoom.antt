@@ -50,7 +50,7 @@ refused-when a block zero large room stuck e b z m last TooShort answer refused 
 -- ---- the gaps of the ledger and the chunks of the arena
 
 module _ (n : ℕ) (a : List ℕ) (ledger : Ledger) (agrees : Agrees n a ledger) where
-  gaps-agree : gaps n ledger ≡ gapsIn 0 (chunksOf a)
+  pub gaps-agree : gaps n ledger ≡ gapsIn 0 (chunksOf a)
   gaps-agree =
       let law = agrees-lawful n a ledger agrees in
       rw (agrees .lists) (gaps-blocks n controlWords firstChunk 0 (chunksOf a) refl (sym (law .fills)) (law .sizes))

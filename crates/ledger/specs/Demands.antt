@@ -13,10 +13,11 @@ use Rattle.layout.specs.declared.Reason.the-variants.{Length, Damaged, NotABloc
 use Rattle.layout.specs.Walk.{sound}
 use Rattle.rules.specs.Answers.{Answer, success}
 use Rattle.rules.specs.Causes.{LawfulRequest}
+use Rattle.rules.specs.Crumbs.{crumbs}
 use Rattle.rules.specs.Pictures.{pictureLength, Says}
 use Rattle.rules.specs.declared.Request.{Request}
 use Rattle.rules.specs.Libraries.{Call, start, alloc, free, resize, relocate, realloc, size, view, report, write, read, Library}
-use Rattle.ledger.specs.Events.{Event}
+use Rattle.ledger.specs.Events.{Event, call}
 use Rattle.ledger.specs.Ledger.{Entry, Ledger, told, Done, Listed, Unlisted, begins, ends, heldWords}
 use Rattle.ledger.specs.Gaps.{gapFrom, gaps, EachShorter, RoomShorter}
 use Rattle.ledger.specs.Runs.{State, Allowed, after, Run}
@@ -133,6 +134,11 @@ module _ (library : Library) where
       (n : ℕ) (s : State) → Run library n s → (below above : Ledger) (e : Entry) → s .ledger ≡ below ++ e ∷ above → (w : ℕ) → LawfulRequest n w
       → 0 < gapFrom n (ends e) above → need w ≤ headerWords + e .granted
       → library (resizes (e .block) w) (s .words) .answer ≡ success (e .block ∷ (need w - headerWords) ∷ [])
+
+  -- item 6: after this call, done or refused, there are at most so many crumbs more among the gaps than before it
+  abbrev pub LeavesCrumbs : Call → ℕ → Type 0
+  LeavesCrumbs c more =
+      (n : ℕ) (s : State) → Run library n s → crumbs (gaps n (after library (call c) s .ledger)) ≤ more + crumbs (gaps n (s .ledger))
 
   -- a call on a block is answered 3 exactly for a number that is not in the ledger
   abbrev pub NeedsBlock : (ℕ → Call) → List ℕ → Ledger → Type 0

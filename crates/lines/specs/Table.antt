@@ -1,5 +1,5 @@
 -- Document 01's whole run and its move, in its own letters: what is asked of the functions that the program's contracts
--- cite.
+-- cite. From 02000A on the replies are those of item 6, worked out again from the rules.
 use Prim.Native.Nat.{ℕ}
 use Prim.Native.Char.{code}
 use Prim.Native.String.{String, [] as noText, _∷_ as _before_}
@@ -47,17 +47,17 @@ wholeRun =
     starred "010020" "0100"
     ∷ starred "020005" "0200001A0006"
     ∷ starred "020001" "020000160002"
-    ∷ starred "02000A" "0200000A000A"
-    ∷ starred "05" "05000006000400030001"
+    ∷ starred "02000A" "020000040010"
+    ∷ starred "05" "05000000000000030000"
     ∷ starred "030016" "0300"
     ∷ starred "030016" "0303"
     ∷ plain "020004"
-    ∷ starred "04000A000D" "0400000A000E"
+    ∷ starred "04000A000D" "040300000000"
     ∷ plain "05"
-    ∷ starred "020001" "020600000000"
+    ∷ starred "020001" "020000160002"
     ∷ plain "04001A0007"
     ∷ plain "03000A"
-    ∷ starred "02000B" "0200000A000E"
+    ∷ starred "02000B" "020600000000"
     ∷ starred "02001D" "020500000000"
     ∷ plain "020000"
     ∷ plain "0Z"

@@ -14,10 +14,14 @@ use Rattle.layout.proofs.Written.{length-written}
 use Rattle.layout.proofs.Round.{sound-lawful, sound-chunks, written-sound}
 use Rattle.rules.specs.Answers.{Outcome}
 use Rattle.rules.specs.Spots.{held}
-use Rattle.rules.specs.Rules.{joined, released, copied}
+use Rattle.rules.specs.Rules.{cut, trim, joined, released, copied}
+use Rattle.rules.specs.Rooms.{roomWords, roomAfter}
+use Rattle.rules.specs.Stands.{GapAt}
+use Rattle.rules.specs.Causes.{LawfulRequest}
+use Rattle.rules.proofs.Searches.{BlockAt}
 use Rattle.rules.proofs.Gates.{request-needed}
 use Rattle.rules.proofs.Remainder.{cut-lawful}
-use Rattle.rules.proofs.Staying.{kept-lawful}
+use Rattle.rules.proofs.Staying.{KeepsOfRoom, kept-lawful}
 use Rattle.rules.proofs.Copying.{length-copied}
 use Rattle.rules.proofs.Joining.{joined-lawful}
 use Rattle.rules.proofs.OldBlock.{StillThere, still-there}
@@ -55,6 +59,16 @@ module _ (a : List ℕ) (e : sound a ≡ true) where
       let z = sizes-split pre (live s ∷ post) (l .sizes) .1 in
       joined-lawful (length a) pre (live s ∷ []) (free s ∷ []) post l (z .0, z .1, tt) refl
 
+  pub allots-lawful : (n : ℕ) → LawfulRequest (length a) n → (pre : List Chunk) (s : ℕ) (post : List Chunk) → GapAt a (need n) pre s post
+      → Lawful (length a) (pre ++ (cut (need n) s ++ post))
+  allots-lawful n r pre s post (same, enough) =
+      cut-lawful (length a) (need n) pre s post (chunks-lawful _ same) (request-needed (length a) n (sound-lawful a e) r) enough
+
+  pub resizes-lawful : (b n : ℕ) → LawfulRequest (length a) n → (pre : List Chunk) (s : ℕ) (post : List Chunk) → BlockAt a b pre s post → (keep : ℕ)
+      → KeepsOfRoom (need n) s post keep → Lawful (length a) (pre ++ (trim keep (roomWords s post) ++ roomAfter post))
+  resizes-lawful b n r pre s post is keep k =
+      kept-lawful (length a) (need n) s keep pre post (chunks-lawful _ (is .same)) (request-needed (length a) n (sound-lawful a e) r) k
+
 -- a block moves
 moved-kept : (a : List ℕ) (b block count s : ℕ) (ks : List Chunk) → StillThere (copied b block count (written ks a)) b s ks
     → Kept a (written (released (held b ks)) (copied b block count (written ks a)))
@@ -73,17 +87,13 @@ module _ (a : List ℕ) where
   starts-kept values after (restarts l) = written-kept _ a (whole-lawful a l)
 
   pub allots-kept : (n : ℕ) (values after : List ℕ) → Allots a n values after → Kept a after
-  allots-kept n values after (allots e r pre s post (same, enough)) =
-      written-kept _ a (cut-lawful (length a) (need n) pre s post (chunks-lawful a e _ same)
-      (request-needed (length a) n (sound-lawful a e) r) enough)
+  allots-kept n values after (allots e r pre s post gap) = written-kept _ a (allots-lawful a e n r pre s post gap)
 
   pub frees-kept : (b : ℕ) (values after : List ℕ) → Frees a b values after → Kept a after
   frees-kept b values after (frees e pre s post is) = written-kept _ a (freed-lawful a e pre s post (is .same))
 
   pub resizes-kept : (b n : ℕ) (values after : List ℕ) → Resizes a b n values after → Kept a after
-  resizes-kept b n values after (resizes e r pre s post is keep k) =
-      written-kept _ a (kept-lawful (length a) (need n) s keep pre post (chunks-lawful a e _ (is .same))
-      (request-needed (length a) n (sound-lawful a e) r) k)
+  resizes-kept b n values after (resizes e r pre s post is keep k) = written-kept _ a (resizes-lawful a e b n r pre s post is keep k)
 
   pub relocates-kept : (b n : ℕ) (values after : List ℕ) → Relocates a b n values after → Kept a after
   relocates-kept b n values after (moves e r pre s post is before g behind gap block at-is ks same count shorter) =

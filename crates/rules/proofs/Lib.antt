@@ -23,6 +23,7 @@ pub mod Calls
 pub mod ReportCounts
 pub mod Largest
 pub mod Shrinking
+pub mod Crumbs
 pub mod EmptyViews
 pub mod BlockNumbers
 pub mod Batches

@@ -1,6 +1,6 @@
 -- What is over of some words once a need was taken from them: it is split off as a chunk, or it is too little for one
 -- and all words are taken.
--- No other file of proofs looks at how many words are split off.
+-- The other files of proofs carry the bound by its name; what crumbs are is in `Crumbs`.
 use mathlib.Core.Path.{_≡_, refl}
 use mathlib.Core.Bool.{Bool, true, false, cond}
 use mathlib.Core.List.{List, [], _∷_, _++_}

@@ -29,7 +29,7 @@ use Rattle.rules.proofs.Remainder.{takes-all}
 use Rattle.rules.proofs.Searches.{BlockAt, block-sizes, block-held}
 use Rattle.rules.specs.Causes.{LawfulRequest}
 use Rattle.rules.proofs.Gates.{sound-gate, request-gate, request-needed}
-use Rattle.rules.proofs.Staying.{in-room, its-need, kept-lawful}
+use Rattle.rules.proofs.Staying.{in-room, hands-over, kept-lawful}
 
 -- ---- how many words the block keeps
 
@@ -145,7 +145,7 @@ module _ (a : List ℕ) (b : ℕ) (pre : List Chunk) (s t : ℕ) (post : List Ch
   lawful =
       subst (λ (ks : List Chunk). Lawful (length a) (pre ++ ks)) handed-over
       (kept-lawful (length a) (need n) s (need n) pre (free t ∷ post) (rw (is .same) at (sound-chunks a e .law)) needed
-      (its-need (omega (arith, sizes .2 .1))))
+      (hands-over enough (omega (arith, sizes .2 .1))))
 
   -- the word that names the free chunk, whatever the sizes of the block and of that chunk are
   free-named : (words : List ℕ) (size next : ℕ) → Arena words (pre ++ live size ∷ free next ∷ post)

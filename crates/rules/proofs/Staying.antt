@@ -42,10 +42,12 @@ module _ (b need : ℕ) (pre : List Chunk) (s : ℕ) (a : List ℕ) where
 
 -- ---- how many words it keeps
 
--- a block of `s` words before `post` keeps `keep` words of its room for a need: just the need, and the rest can be a
--- free chunk; or all, and fewer are over than are split off
+-- a block of `s` words before `post` keeps `keep` words of its room for a need: just the need, and the rest is split
+-- off; just the need, and a free chunk right after it takes the rest, however few; or all, and fewer are over than are
+-- split off
 pub data KeepsOfRoom (need s : ℕ) (post : List Chunk) : ℕ → Type 0 where
-  its-need : need + leastSize ≤ roomWords s post → KeepsOfRoom need s post need
+  splits-rest : need + leastSplit ≤ roomWords s post → KeepsOfRoom need s post need
+  hands-over : need ≤ s → s + leastSize ≤ roomWords s post → KeepsOfRoom need s post need
   its-room : need ≤ roomWords s post → roomWords s post < need + leastSplit → KeepsOfRoom need s post (roomWords s post)
 
 pub keeps-of-room : (need s : ℕ) (post : List Chunk) → Sizes post → need ≤ roomWords s post
@@ -56,12 +58,12 @@ keeps-of-room need s post z enough = go (ltb s words) refl (leb need s) refl
     words = roomWords s post
 
     taking : {over : Bool} → Remainder need words over → KeepsOfRoom need s post (cond over need words)
-    taking (split o) = its-need (omega arith)
+    taking (split o) = splits-rest o
     taking (whole l few) = its-room enough few
 
     go : (beside : Bool) → ltb s words ≡ beside → (fits : Bool) → leb need s ≡ fits
         → KeepsOfRoom need s post (cond (beside && fits) need (taken need words))
-    go true q true e = its-need (omega (arith, room-next s post z (ltb-true s words q), leb-true need s e))
+    go true q true e = hands-over (leb-true need s e) (room-next s post z (ltb-true s words q))
     go true q false e = taking (remainder need words enough)
     go false q fits e = taking (remainder need words enough)
 
@@ -73,15 +75,25 @@ pub record KeptNumbers (need s keep : ℕ) (post : List Chunk) : Type 0 where
   pub over : keep < roomWords s post → keep + leastSize ≤ roomWords s post
 
 pub kept-numbers : (need s keep : ℕ) (post : List Chunk) → KeepsOfRoom need s post keep → KeptNumbers need s keep post
-kept-numbers need s keep post (its-need l) = record { enough = omega arith; few = omega arith; within = omega arith; over = λ h. l }
+kept-numbers need s keep post (splits-rest o) =
+    record { enough = omega arith; few = omega arith; within = omega arith; over = λ h. omega arith }
+kept-numbers need s keep post (hands-over own beside) =
+    record { enough = omega arith; few = omega arith; within = omega arith; over = λ h. omega arith }
 kept-numbers need s keep post (its-room enough few) = record { enough = enough; few = few; within = omega arith; over = λ h. absurd (omega arith) }
 
--- the chunks that the room becomes have lawful sizes, and as many words as it had
-pub kept-sizes : (need s keep : ℕ) (post : List Chunk) → Needed need → Sizes (live s ∷ post) → KeepsOfRoom need s post keep
-    → Sizes (trim keep (roomWords s post)) × (total (trim keep (roomWords s post)) ≡ roomWords s post)
-kept-sizes need s keep post n z (its-need l) =
+-- the chunks that the room becomes have lawful sizes, and as many words as it had: where just the need is kept, and the
+-- rest can be a chunk
+need-sizes : (need s : ℕ) (post : List Chunk) → Needed need → Sizes (live s ∷ post) → need + leastSize ≤ roomWords s post
+    → Sizes (trim need (roomWords s post)) × (total (trim need (roomWords s post)) ≡ roomWords s post)
+need-sizes need s post n z l =
     let e = room-even s post z in
     rw (lt-leb (roomWords s post) need (omega arith)) ((n .even, n .least, (omega (arith, n .even), omega arith, tt)), omega arith)
+
+-- and in each case
+pub kept-sizes : (need s keep : ℕ) (post : List Chunk) → Needed need → Sizes (live s ∷ post) → KeepsOfRoom need s post keep
+    → Sizes (trim keep (roomWords s post)) × (total (trim keep (roomWords s post)) ≡ roomWords s post)
+kept-sizes need s keep post n z (splits-rest o) = need-sizes need s post n z (omega arith)
+kept-sizes need s keep post n z (hands-over own beside) = need-sizes need s post n z (omega arith)
 kept-sizes need s keep post n z (its-room enough few) =
     rw (le-leb (roomWords s post) (roomWords s post) (omega arith)) ((room-even s post z, omega (arith, n .least), tt), omega arith)
 

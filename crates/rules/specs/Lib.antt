@@ -9,3 +9,4 @@ pub mod Stands
 pub mod Causes
 pub mod Behaves
 pub mod Rooms
+pub mod Crumbs

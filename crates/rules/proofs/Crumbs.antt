@@ -1,0 +1,203 @@
+-- Fewer crumbs: an alloc or a resize leaves no more crumbs than there were, and any call at most one more, which is the
+-- chunk that it freed.
+use mathlib.Core.Path.{_≡_, refl, ap, _∙_}
+use mathlib.Core.Bool.{Bool, true, false, _&&_, cond}
+use mathlib.Core.List.{List, [], _∷_, _++_}
+use Prim.Native.Nat.{ℕ, zero, suc, _+_, _-_, _≤_, _<_}
+use native.Mathlib.Nat.{zero-add}
+use native.Mathlib.Omega.{arith}
+use lib.Dec.{ltb}
+use lib.ListN.{length}
+use borrow.Author.Tests.{le-leb, lt-leb, lt-ltb, le-ltb, ltb-true, ltb-false}
+use Rattle.layout.specs.Numbers.{leastSplit, need}
+use Rattle.layout.specs.Chunks.{Chunk, free, live, written}
+use Rattle.layout.specs.Walk.{sound, chunksOf}
+use Rattle.layout.specs.declared.Reason.{Reason}
+use Rattle.layout.proofs.Holds.{Lawful}
+use Rattle.layout.proofs.Round.{sound-lawful, written-sound}
+use Rattle.rules.specs.Answers.{Outcome}
+use Rattle.rules.specs.Spots.{held}
+use Rattle.rules.specs.Rules.{cut, trim, join, joined, released, copied}
+use Rattle.rules.specs.Rooms.{roomWords, roomAfter}
+use Rattle.rules.specs.Crumbs.{crumb, crumbs, freeSizes}
+use Rattle.rules.specs.Calls.{allocOn, freeOn, resizeOn, relocateOn, reallocOn}
+use Rattle.rules.proofs.Remainder.{Remainder, split, whole, remainder}
+use Rattle.rules.proofs.Rooms.{roomTail, room-split}
+use Rattle.rules.proofs.Staying.{KeepsOfRoom, splits-rest, hands-over, its-room}
+use Rattle.rules.proofs.OldBlock.{StillThere, still-there}
+use Rattle.rules.proofs.Gates.{request-needed}
+use Rattle.rules.proofs.CallCases.{Case, refuses, does, Allots, allots, Frees, frees, alloc-case, free-case}
+use Rattle.rules.proofs.RegrantCases.{Resizes, resizes, Relocates, moves, Regrants, in-place, elsewhere, resize-case, relocate-case, realloc-case}
+use Rattle.rules.proofs.Keeping.{freed-lawful, allots-lawful, resizes-lawful}
+
+-- ---- one stretch of free words
+
+crumb-most : (words : ℕ) → crumb words ≤ 1
+crumb-most words = go (ltb 0 words && ltb words leastSplit)
+  where
+    go : (is : Bool) → cond is 1 0 ≤ 1
+    go true = omega arith
+    go false = omega arith
+
+-- what is long enough to be split off is none
+no-crumb : (words : ℕ) → leastSplit ≤ words → crumb words ≡ 0
+no-crumb words long = rw (le-ltb words leastSplit long) (go (ltb 0 words))
+  where
+    go : (some : Bool) → _≡_ {A = ℕ} (cond (some && false) 1 0) 0
+    go true = refl
+    go false = refl
+
+-- and what is shorter, but not empty, is one
+pub a-crumb : (words : ℕ) → 0 < words → words < leastSplit → crumb words ≡ 1
+a-crumb words some few = rw (lt-ltb 0 words some, lt-ltb words leastSplit few)
+
+-- a stretch that becomes longer is none that it was not
+crumb-longer : (words more : ℕ) → 0 < words → words ≤ more → crumb more ≤ crumb words
+crumb-longer words more some longer = go (ltb more leastSplit) refl
+  where
+    go : (few : Bool) → ltb more leastSplit ≡ few → crumb more ≤ crumb words
+    go true e = omega (arith, crumb-most more, a-crumb words some (omega (arith, ltb-true more leastSplit e)))
+    go false e = omega (arith, no-crumb more (ltb-false more leastSplit e))
+
+-- two that are joined are one
+crumb-joined : (s t : ℕ) → crumb (s + t) ≤ crumb s + crumb t
+crumb-joined zero t = omega (arith, ap crumb (zero-add t))
+crumb-joined (suc s) t = omega (arith, crumb-longer (suc s) (suc s + t) (omega arith) (omega arith))
+
+-- ---- the crumbs of a list of chunks
+
+abbrev crumbsIn : List Chunk → ℕ
+crumbsIn ks = crumbs (freeSizes ks)
+
+crumbs-append : (ks ls : List Chunk) → crumbsIn (ks ++ ls) ≡ crumbsIn ks + crumbsIn ls
+crumbs-append [] ls = omega arith
+crumbs-append (free s ∷ ks) ls = omega (arith, crumbs-append ks ls)
+crumbs-append (live s ∷ ks) ls = crumbs-append ks ls
+
+-- chunks in the middle are replaced by others
+crumbs-replaced : (pre old new post : List Chunk) (more : ℕ) → crumbsIn new ≤ more + crumbsIn old
+    → crumbsIn (pre ++ (new ++ post)) ≤ more + crumbsIn (pre ++ (old ++ post))
+crumbs-replaced pre old new post more few =
+    omega (
+      arith,
+      few,
+      crumbs-append pre (new ++ post),
+      crumbs-append new post,
+      crumbs-append pre (old ++ post),
+      crumbs-append old post,
+    )
+
+-- a need is taken from a free chunk: what stays free of it is no crumb
+cut-crumbs : (need s : ℕ) → need ≤ s → crumbsIn (cut need s) ≤ 0 + crumbsIn (free s ∷ [])
+cut-crumbs need s enough = go (remainder need s enough)
+  where
+    go : {over : Bool} → Remainder need s over
+        → crumbsIn (cond over (free (s - need) ∷ live need ∷ []) (live s ∷ [])) ≤ 0 + crumbsIn (free s ∷ [])
+    go (split o) = omega (arith, no-crumb (s - need) (omega arith))
+    go (whole l few) = omega arith
+
+-- a block keeps words of its room: the rest is no crumb, or a free chunk that took words
+trim-crumbs : (need s keep : ℕ) (post : List Chunk) → KeepsOfRoom need s post keep
+    → crumbsIn (trim keep (roomWords s post)) ≤ 0 + crumbsIn (live s ∷ roomTail post)
+trim-crumbs need s keep post (splits-rest o) =
+    rw (lt-leb (roomWords s post) need (omega arith)) (omega (arith, no-crumb (roomWords s post - need) (omega arith)))
+trim-crumbs need s keep [] (hands-over own beside) = absurd (omega arith)
+trim-crumbs need s keep (live t ∷ ks) (hands-over own beside) = absurd (omega arith)
+trim-crumbs need s keep (free t ∷ ks) (hands-over own beside) =
+    rw (lt-leb (s + t) need (omega arith)) (omega (arith, crumb-longer t (s + t - need) (omega arith) (omega arith)))
+trim-crumbs need s keep post (its-room enough few) = rw (le-leb (roomWords s post) (roomWords s post) (omega arith)) (omega arith)
+
+-- neighbours are merged
+join-crumbs : (k : Chunk) (ks : List Chunk) → crumbsIn (join k ks) ≤ crumbsIn (k ∷ ks)
+join-crumbs (live s) ks = omega arith
+join-crumbs (free s) [] = omega arith
+join-crumbs (free s) (live t ∷ ks) = omega arith
+join-crumbs (free s) (free t ∷ ks) = omega (arith, crumb-joined s t)
+
+joined-crumbs : (ks : List Chunk) → crumbsIn (joined ks) ≤ crumbsIn ks
+unfolding joined
+joined-crumbs [] = omega arith
+joined-crumbs (free s ∷ ks) = omega (arith, join-crumbs (free s) (joined ks), joined-crumbs ks)
+joined-crumbs (live s ∷ ks) = joined-crumbs ks
+
+-- ---- the crumbs of an arena
+
+abbrev pub crumbsOf : List ℕ → ℕ
+crumbsOf a = crumbsIn (chunksOf a)
+
+-- where other chunks are written
+written-crumbs : (ks : List Chunk) (a : List ℕ) (more : ℕ) → Lawful (length a) ks → crumbsIn ks ≤ more + crumbsOf a
+    → crumbsOf (written ks a) ≤ more + crumbsOf a
+written-crumbs ks a more l few = rw (written-sound ks a l .1) few
+
+-- a chunk is freed
+freed-crumbs : (a : List ℕ) (pre : List Chunk) (s : ℕ) (post : List Chunk) → sound a ≡ true → chunksOf a ≡ pre ++ live s ∷ post
+    → crumbsOf (written (joined (pre ++ free s ∷ post)) a) ≤ 1 + crumbsOf a
+freed-crumbs a pre s post e same =
+    written-crumbs _ a 1 (freed-lawful a e pre s post same)
+    (rw same
+    (omega (
+      arith,
+      joined-crumbs (pre ++ free s ∷ post),
+      crumbs-replaced pre (live s ∷ []) (free s ∷ []) post 1 (omega (arith, crumb-most s)),
+    )))
+
+-- a refused call keeps the words, so all depends on what is done
+left : {fields : ℕ} {a : List ℕ} {Refuses : Reason → Type 0} {Does : List ℕ → List ℕ → Type 0} {outcome : Outcome} (more : ℕ)
+    → ((values after : List ℕ) → Does values after → crumbsOf after ≤ more + crumbsOf a) → Case fields a Refuses Does outcome
+    → crumbsOf (outcome .words) ≤ more + crumbsOf a
+left more f (refuses why r) = omega arith
+left more f (does {values} {after} d) = f values after d
+
+-- ---- what the calls do
+
+module _ (a : List ℕ) where
+  allots-crumbs : (n : ℕ) (values after : List ℕ) → Allots a n values after → crumbsOf after ≤ 0 + crumbsOf a
+  allots-crumbs n values after (allots e r pre s post (same, enough)) =
+      written-crumbs _ a 0 (allots-lawful a e n r pre s post (same, enough))
+      (rw same (crumbs-replaced pre (free s ∷ []) (cut (need n) s) post 0 (cut-crumbs (need n) s enough)))
+
+  frees-crumbs : (b : ℕ) (values after : List ℕ) → Frees a b values after → crumbsOf after ≤ 1 + crumbsOf a
+  frees-crumbs b values after (frees e pre s post is) = freed-crumbs a pre s post e (is .same)
+
+  resizes-crumbs : (b n : ℕ) (values after : List ℕ) → Resizes a b n values after → crumbsOf after ≤ 0 + crumbsOf a
+  resizes-crumbs b n values after (resizes e r pre s post is keep k) =
+      written-crumbs _ a 0 (resizes-lawful a e b n r pre s post is keep k)
+      (rw (room-split pre s post (is .same))
+      (crumbs-replaced pre (live s ∷ roomTail post) (trim keep (roomWords s post)) (roomAfter post) 0 (trim-crumbs (need n) s keep post k)))
+
+  -- a block moves: the old one is freed where the need was granted
+  moved-crumbs : (b block count s : ℕ) (ks : List Chunk) → StillThere (copied b block count (written ks a)) b s ks → crumbsIn ks ≤ 0 + crumbsOf a
+      → crumbsOf (written (released (held b ks)) (copied b block count (written ks a))) ≤ 1 + crumbsOf a
+  moved-crumbs b block count s ks (is-sound, chunks, pre, post, old, found) few =
+      let freed = freed-crumbs (copied b block count (written ks a)) pre s post is-sound (chunks ∙ old .same) in
+      rw found (omega (arith, freed, few, ap crumbsIn chunks))
+
+  relocates-crumbs : (b n : ℕ) (values after : List ℕ) → Relocates a b n values after → crumbsOf after ≤ 1 + crumbsOf a
+  relocates-crumbs b n values after (moves e r pre s post is before g behind gap block at-is ks same count shorter) =
+      rw same
+      (moved-crumbs b block count s _
+      (still-there a (need n) pre s post before g behind b block count e (request-needed (length a) n (sound-lawful a e) r) is gap
+      (omega arith) at-is)
+      (rw (gap .0) (crumbs-replaced before (free g ∷ []) (cut (need n) g) behind 0 (cut-crumbs (need n) g (gap .1)))))
+
+  regrants-crumbs : (b n : ℕ) (values after : List ℕ) → Regrants a b n values after → crumbsOf after ≤ 1 + crumbsOf a
+  regrants-crumbs b n values after (in-place d) = omega (arith, resizes-crumbs b n values after d)
+  regrants-crumbs b n values after (elsewhere d) = relocates-crumbs b n values after d
+
+  -- ---- the calls, done or refused
+
+  pub alloc-crumbs : (n : ℕ) → crumbsOf (allocOn a n .words) ≤ crumbsOf a
+  alloc-crumbs n = omega (arith, left 0 (allots-crumbs n) (alloc-case a n))
+
+  pub resize-crumbs : (b n : ℕ) → crumbsOf (resizeOn a b n .words) ≤ crumbsOf a
+  resize-crumbs b n = omega (arith, left 0 (resizes-crumbs b n) (resize-case a b n))
+
+  pub free-crumbs : (b : ℕ) → crumbsOf (freeOn a b .words) ≤ 1 + crumbsOf a
+  free-crumbs b = left 1 (frees-crumbs b) (free-case a b)
+
+  pub relocate-crumbs : (b n : ℕ) → crumbsOf (relocateOn a b n .words) ≤ 1 + crumbsOf a
+  relocate-crumbs b n = left 1 (relocates-crumbs b n) (relocate-case a b n)
+
+  pub realloc-crumbs : (b n : ℕ) → crumbsOf (reallocOn a b n .words) ≤ 1 + crumbsOf a
+  realloc-crumbs b n = left 1 (regrants-crumbs b n) (realloc-case a b n)
