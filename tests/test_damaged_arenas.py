@@ -48,7 +48,7 @@ def block_for(random, arena):
     return random.choice(BIG + [3, 4, 5, length, length + 2, random.getrandbits(32), random.randrange(length + 3)])
 
 
-def few_over(random, words):
+def request_leaving_few(random, words):
     """A request that leaves none to twelve of so many words over, a header counted."""
     most = words - model.HEADER
     return random.randint(max(most - 13, 1), most)
@@ -60,7 +60,7 @@ def asked_for(random, arena):
     kind = random.random()
     gaps = [piece.size for piece in arena.chunks if not piece.live]
     if gaps and kind < 0.3:
-        return few_over(random, random.choice(gaps))
+        return request_leaving_few(random, random.choice(gaps))
     if arena.chunks and kind < 0.6:
         place = random.randrange(len(arena.chunks))
         together = sum(piece.size for piece in arena.chunks[place:place + random.choice([1, 1, 2])])
@@ -70,13 +70,13 @@ def asked_for(random, arena):
     return random.choice(BIG + [max(length - 4 + change, 0) for change in (-2, -1, 0, 1, 2)] + [random.getrandbits(32)])
 
 
-def asked_of(random, arena, block):
+def asked_for_block(random, arena, block):
     """A number of words for this block: near what it has, or has with the chunk after it, or as for any other."""
     places = [at for at, piece in enumerate(arena.chunks) if piece.start + model.HEADER == block]
     if not places or random.random() < 0.5:
         return asked_for(random, arena)
     together = arena.chunks[places[0]:places[0] + random.choice([1, 1, 2])]
-    return few_over(random, sum(piece.size for piece in together))
+    return request_leaving_few(random, sum(piece.size for piece in together))
 
 
 def cases_for(random, number):
@@ -92,7 +92,7 @@ def cases_for(random, number):
 def cases_on(random, arena, call):
     """The call on this arena with some numbers; a realloc comes together with the two calls that it is made of."""
     block = block_for(random, arena)
-    asked = asked_of(random, arena, block)
+    asked = asked_for_block(random, arena, block)
     calls = cases.TOGETHER if call == cases.REALLOC else [call]
     return [cases.Case(each, block, asked, arena.words) for each in calls]
 
@@ -103,7 +103,7 @@ def short_cases(random, count):
         arena = arenas.short_arena(random)
         yield cases.Case(cases.ALLOC, 0, asked_for(random, arena), arena.words)
         for block in [piece.start + model.HEADER for piece in arena.chunks if piece.live]:
-            asked = asked_of(random, arena, block)
+            asked = asked_for_block(random, arena, block)
             yield from (cases.Case(call, block, asked, arena.words) for call in cases.TOGETHER)
 
 

@@ -15,7 +15,7 @@ pub mod Onward
 pub mod Runs
 pub mod Lasting
 pub mod Demands
-pub mod GapCrumbs
+pub mod GapsLeft
 pub mod Examples
 pub mod Useless
 pub mod BatchRuns

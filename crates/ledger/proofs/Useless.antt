@@ -8,7 +8,7 @@ use native.Mathlib.Nat.{add-zero}
 use native.Mathlib.Omega.{arith}
 use lib.Dec.{eqb, ltb}
 use lib.ListN.{length, getD, set, replicate, length-replicate}
-use borrow.Author.Tests.{le-leb, ltb-true, ltb-false}
+use borrow.Author.Tests.{le-leb, eq-eqb, ltb-true, ltb-false}
 use Rattle.layout.specs.Numbers.{controlWords, headerWords, lawful, greatestRequest, need}
 use Rattle.layout.specs.Chunks.{header, write, written}
 use Rattle.layout.specs.Walk.{meet, walk, walkFrom, walked, sound, chunksOf}
@@ -17,11 +17,11 @@ use Rattle.rules.specs.Answers.{Answer, Outcome, success}
 use Rattle.rules.specs.Pictures.{pictureOf, pictureLength, Says}
 use Rattle.rules.specs.Spots.{lowest}
 use Rattle.rules.specs.Rules.{joined, copied}
-use Rattle.rules.specs.Crumbs.{crumb}
+use Rattle.rules.specs.Crumbs.{hole, crumb}
 use Rattle.rules.specs.Calls.{startOn, allocBy, freeOn, regrantBy, sizeOn, reportOn}
 use Rattle.rules.specs.Libraries.{Call, start, alloc, free, resize, relocate, realloc, size, view, report, write as writePicture, read}
 use Rattle.rules.specs.Libraries.{Library, ours}
-use Rattle.rules.proofs.Crumbs.{a-crumb}
+use Rattle.rules.proofs.Crumbs.{a-hole, a-crumb}
 use Rattle.rules.proofs.Pictures.{picture-length}
 use Rattle.rules.proofs.Saying.{said-says, picture-says}
 use Rattle.ledger.specs.Events.{call, store}
@@ -30,7 +30,7 @@ use Rattle.ledger.specs.Ledger.{Entry, enter, strike, told, Done, Held, 
 use Rattle.ledger.specs.Runs.{State, Allowed, after, Run, begun, arrived, next}
 use Rattle.ledger.specs.Holders.{just, pictured, still}
 use Rattle.ledger.specs.Demands.{Starts, Receives, Lengths, Apart, Inside, Keeps, Lasts, Sums, RoomForAlloc, RoomForResize, RoomForRelocate}
-use Rattle.ledger.specs.Demands.{RoomForRealloc, ShrinksToNeed, LeavesCrumbs, freeWordsIn, liveBlocksIn, Known}
+use Rattle.ledger.specs.Demands.{RoomForRealloc, ShrinksToNeed, NoMoreCrumbs, NeedOrGap, freeWordsIn, liveBlocksIn, Known}
 use Rattle.ledger.proofs.Examples.{clash}
 
 -- ---- what the room rule asks of a new arena: its first alloc is done
@@ -85,8 +85,8 @@ refuses-start library refuses starts = refuses start _ (starts (replicate 6 0) r
 abbrev pub GrantsBlockFour : Library → Type 0
 GrantsBlockFour library = (w : ℕ) (a : List ℕ) → Done (library (alloc w) a .answer) → told (library (alloc w) a .answer) .block ≡ 4
 
--- if it keeps the room rule and grants just the need, its blocks overlap: of 32 words, the first block leaves room for
--- a second
+-- if it keeps the room rule and grants its need with few words over, its blocks overlap: of 32 words, the first block
+-- leaves room for a second
 pub grants-block-four : (library : Library) → GrantsBlockFour library → RoomForAlloc library alloc → Known library → Apart library → ⊥
 unfolding enter
 grants-block-four library four room known apart =
@@ -226,9 +226,9 @@ GrantsJustTheNeed library = (w : ℕ) (a : List ℕ) → Done (library (alloc w)
 
 -- if it keeps the room rule and its blocks lie inside, it leaves a crumb: of 12 words, a request for 2 leaves 6
 pub grants-just-the-need : (library : Library) → GrantsJustTheNeed library → RoomForAlloc library alloc → Inside library
-    → LeavesCrumbs library (alloc 2) 0 → ⊥
+    → NoMoreCrumbs library (alloc 2) → ⊥
 unfolding enter
-grants-just-the-need library exact room inside leaves = go (ltb 0 below) refl
+grants-just-the-need library exact room inside none = go (ltb 0 below) refl
   where
     o : Once library (replicate 12 0) 2
     o = has-once library room (replicate 12 0) 2 refl (omega arith)
@@ -245,17 +245,53 @@ grants-just-the-need library exact room inside leaves = go (ltb 0 below) refl
     within : (2 ≤ begins e) × (ends e ≤ 12)
     within = inside 12 _ (o .once) e (inl refl)
 
-    none : crumb below + (crumb above + 0) ≤ 0
-    none = rw (o .done) at (leaves 12 _ (o .started))
+    no-crumbs : crumb below + (crumb above + 0) ≤ 0
+    no-crumbs = rw (o .done) at (none 12 _ (o .started))
 
     go : (some : Bool) → ltb 0 below ≡ some → ⊥
-    go true is = omega (arith, none, a-crumb below (ltb-true 0 below is) (omega (arith, exact 2 _ (o .done), within)))
+    go true is = omega (arith, no-crumbs, a-crumb below (ltb-true 0 below is) (omega (arith, exact 2 _ (o .done), within)))
     go false is =
         omega (
           arith,
-          none,
+          no-crumbs,
           a-crumb above (omega (arith, ltb-false 0 below is, exact 2 _ (o .done), within)) (omega (arith, exact 2 _ (o .done), within)),
         )
+
+-- ---- one that grants more, though there is no need to
+
+-- an alloc that is done grants six words beyond its need, whatever else it does
+abbrev pub GrantsSixBeyond : Library → Type 0
+GrantsSixBeyond library = (w : ℕ) (a : List ℕ) → Done (library (alloc w) a .answer)
+    → headerWords + told (library (alloc w) a .answer) .granted ≡ need w + 6
+
+-- if it keeps the room rule and its blocks lie inside, it does not take the gap whole: of 32 words, 20 are left
+pub grants-six-beyond : (library : Library) → GrantsSixBeyond library → RoomForAlloc library alloc → Inside library → NeedOrGap library alloc → ⊥
+unfolding enter
+grants-six-beyond library beyond room inside whole =
+    ⊎-elim (λ just-need. omega (arith, just-need, six)) (λ one-less. go (ltb 0 below) refl (rw (o .done) at one-less))
+    (whole 32 _ (o .started) 2 (o .done))
+  where
+    o : Once library (replicate 32 0) 2
+    o = in-thirty-two library room
+
+    e : Entry
+    e = told (library (alloc 2) (library start (replicate 32 0) .words) .answer)
+
+    six : headerWords + e .granted ≡ need 2 + 6
+    six = beyond 2 _ (o .done)
+
+    below : ℕ
+    below = begins e - 2
+
+    above : ℕ
+    above = 32 - ends e
+
+    within : (2 ≤ begins e) × (ends e ≤ 32)
+    within = inside 32 _ (o .once) e (inl refl)
+
+    go : (some : Bool) → ltb 0 below ≡ some → 1 + (hole below + (hole above + 0)) ≡ 1 → ⊥
+    go true is no-hole = omega (arith, no-hole, a-hole below (ltb-true 0 below is))
+    go false is no-hole = omega (arith, no-hole, a-hole above (omega (arith, ltb-false 0 below is, six, within)))
 
 -- ---- one that never frees
 
@@ -305,6 +341,35 @@ pub resize-moves : (library : Library) → ResizeMoves library → RoomForAlloc 
 resize-moves library moves room known resizes =
     let done = a-resize library room known resizes in
     moves _ 2 _ done (known 6 _ (in-six library room .once) .resize-stays _ 2 done)
+
+-- a resize that is done grants just its need, and leaves all that is over
+abbrev pub ResizesToTheNeed : Library → Type 0
+ResizesToTheNeed library = (b w : ℕ) (a : List ℕ) → Done (library (resize b w) a .answer)
+    → headerWords + told (library (resize b w) a .answer) .granted ≡ need w
+
+-- if it keeps the room rules of alloc and resize and its blocks lie inside, it leaves a crumb: of 12 words, block 4 has
+-- 8, and is asked for 2
+pub resizes-to-the-need : (library : Library) → ResizesToTheNeed library → RoomForAlloc library alloc → Inside library → Known library
+    → RoomForResize library resize → ((b : ℕ) → NoMoreCrumbs library (resize b 2)) → ⊥
+unfolding enter strike
+resizes-to-the-need library exact room inside known resizes none =
+    let o = has-once library room (replicate 12 0) 8 refl (omega arith) in
+    let words = library (alloc 8) (library start (replicate 12 0) .words) .words in
+    let e = told (library (alloc 8) (library start (replicate 12 0) .words) .answer) in
+    let within : (2 ≤ begins e) × (ends e ≤ 12) = inside 12 _ (o .once) e (inl refl) in
+    let enough = known 12 _ (o .started) .alloc-grants 8 (o .done) in
+    let answer = library (resize (e .block) 2) words .answer in
+    let done : Done answer = resizes 12 _ (o .once) [] [] e refl 2 (omega arith) .done .1 (λ short. omega (arith, short, enough)) in
+    let stays = known 12 _ (o .once) .resize-stays (e .block) 2 done in
+    let cut = exact (e .block) 2 words done in
+    let at-four : e .block ≡ 4 = omega (arith, within, enough) in
+    let six : 12 - ends (told answer) ≡ 6 = omega (arith, stays, cut, at-four) in
+    let no-crumbs = rw (done, eq-eqb (e .block) (e .block) refl) at (none (e .block) 12 _ (o .once)) in
+    let low : begins e - 2 ≡ 0 = omega (arith, at-four) in
+    let high : 12 - ends e ≡ 0 = omega (arith, within, enough, at-four) in
+    let before : crumb (begins e - 2) + (crumb (12 - ends e) + 0) ≡ 0 = rw (low, high) refl in
+    let after-it : crumb (12 - ends (told answer)) ≡ 1 = rw six refl in
+    omega (arith, no-crumbs, before, after-it)
 
 -- each call is ours, but resize is another
 abbrev withResize : (ℕ → ℕ → List ℕ → Outcome) → Library
@@ -365,8 +430,8 @@ NeverRelocates library = (b w : ℕ) (a : List ℕ) → Done (library (relocate 
 abbrev pub RelocateStays : Library → Type 0
 RelocateStays library = (b w : ℕ) (a : List ℕ) → Done (library (relocate b w) a .answer) → told (library (relocate b w) a .answer) .block ≡ b
 
--- of a library that keeps the room rules of alloc and relocate and grants just the need, a relocate is done: of 32
--- words, the first block leaves room for a second
+-- of a library that keeps the room rules of alloc and relocate and grants its need with few words over, a relocate is
+-- done: of 32 words, the first block leaves room for a second
 a-relocate : (library : Library) → RoomForAlloc library alloc → Known library → RoomForRelocate library relocate
     → let a = library start (replicate 32 0) .words in let first = library (alloc 2) a in
     Done (library (relocate (told (first .answer) .block) 2) (first .words) .answer)

@@ -21,7 +21,7 @@ use Rattle.rules.specs.Calls.{allocOn, resizeOn, relocateOn, reallocOn}
 use Rattle.rules.specs.Stands.{NoGap}
 use Rattle.rules.specs.Causes.{LawfulRequest, Grounds, Short, ShortBlock, RegrantRefused}
 use Rattle.rules.proofs.Joining.{spaced-after}
-use Rattle.rules.proofs.Searches.{BlockAt, block-sizes, block-held, no-gap-shorter}
+use Rattle.rules.proofs.Searches.{BlockAt, block-sizes, one-block, no-gap-shorter}
 use Rattle.rules.proofs.Rooms.{short-room}
 use Rattle.rules.proofs.Shrinking.{resize-hands-over, realloc-hands-over}
 use Rattle.rules.proofs.Given.{only-last}
@@ -61,12 +61,12 @@ module _ (n : ℕ) (a : List ℕ) (ledger : Ledger) (agrees : Agrees n a ledger)
       (Iff·symm (gaps-shorter (need w) (chunksOf a) (agrees-lawful n a ledger agrees .spaced) (omega arith))))
 
   -- a block with its header is its chunk
-  block-whole : (above : Ledger) (e : Entry) (k : Chunked firstChunk (chunksOf a) e above) → headerWords + e .granted ≡ k .s
+  pub block-whole : (above : Ledger) (e : Entry) (k : Chunked firstChunk (chunksOf a) e above) → headerWords + e .granted ≡ k .s
   block-whole above e k =
       omega (arith, block-sizes a _ _ _ _ (agrees .is-sound) (chunked-block k) .1, ap (λ (f : Entry). f .granted) (k .is))
 
   -- and with the gap right above it, its room
-  block-room : (above : Ledger) (e : Entry) (k : Chunked firstChunk (chunksOf a) e above)
+  pub block-room : (above : Ledger) (e : Entry) (k : Chunked firstChunk (chunksOf a) e above)
       → headerWords + e .granted + gapFrom n (ends e) above ≡ roomWords (k .s) (k .post)
   block-room above e k =
       let law = agrees-lawful n a ledger agrees in
@@ -77,21 +77,13 @@ module _ (n : ℕ) (a : List ℕ) (ledger : Ledger) (agrees : Agrees n a ledger)
       (gap-above n (firstChunk + total (k .pre) + k .s) (k .s) (k .post) (omega (arith, law .fills))
       (spaced-after false (k .pre) (k .s) (k .post) (rw (k .same) at (law .spaced))))
 
-  -- there is one block of a number
-  same-block : (b : ℕ) (pre pre′ : List Chunk) (s s′ : ℕ) (post post′ : List Chunk) → BlockAt a b pre s post → BlockAt a b pre′ s′ post′
-      → (s′ ≡ s) × (post′ ≡ post)
-  same-block b pre pre′ s s′ post post′ is is′ =
-      let held = block-held a b pre s post (agrees .is-sound) is in
-      let held′ = block-held a b pre′ s′ post′ (agrees .is-sound) is′ in
-      (cc, cc)
-
   short-block : (below above : Ledger) (e : Entry) → ledger ≡ below ++ e ∷ above → (w : ℕ)
       → ShortBlock a (e .block) (need w) ↔ RoomShorter (need w) n e above
   short-block below above e q w =
       let k = agrees-chunked n a ledger agrees below e above q in
       let is = chunked-block k in
       let own : ShortBlock a (e .block) (need w) ↔ Short (k .s) (k .post) (need w) = (
-        λ (pre, s, post, is′, short). let same = same-block (e .block) (k .pre) pre (k .s) s (k .post) post is is′ in rw (same .0, same .1) at short,
+        λ (pre, s, post, is′, short). let same = one-block a (e .block) (k .pre) pre (k .s) s (k .post) post (agrees .is-sound) is is′ in rw (same .0, same .1) at short,
         λ short. (k .pre, k .s, k .post, is, short),
       ) in
       rw (block-room above e k) (Iff·trans own (short-room (k .s) (k .post) (need w)))

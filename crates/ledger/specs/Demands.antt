@@ -13,7 +13,7 @@ use Rattle.layout.specs.declared.Reason.the-variants.{Length, Damaged, NotABloc
 use Rattle.layout.specs.Walk.{sound}
 use Rattle.rules.specs.Answers.{Answer, success}
 use Rattle.rules.specs.Causes.{LawfulRequest}
-use Rattle.rules.specs.Crumbs.{crumbs}
+use Rattle.rules.specs.Crumbs.{crumb, holes, crumbs}
 use Rattle.rules.specs.Pictures.{pictureLength, Says}
 use Rattle.rules.specs.declared.Request.{Request}
 use Rattle.rules.specs.Libraries.{Call, start, alloc, free, resize, relocate, realloc, size, view, report, write, read, Library}
@@ -135,10 +135,37 @@ module _ (library : Library) where
       → 0 < gapFrom n (ends e) above → need w ≤ headerWords + e .granted
       → library (resizes (e .block) w) (s .words) .answer ≡ success (e .block ∷ (need w - headerWords) ∷ [])
 
-  -- item 6: after this call, done or refused, there are at most so many crumbs more among the gaps than before it
-  abbrev pub LeavesCrumbs : Call → ℕ → Type 0
-  LeavesCrumbs c more =
-      (n : ℕ) (s : State) → Run library n s → crumbs (gaps n (after library (call c) s .ledger)) ≤ more + crumbs (gaps n (s .ledger))
+  -- item 6: after this call, done or refused, the gaps have no more crumbs than before it
+  abbrev pub NoMoreCrumbs : Call → Type 0
+  NoMoreCrumbs c =
+      (n : ℕ) (s : State) → Run library n s → crumbs (gaps n (after library (call c) s .ledger)) ≤ crumbs (gaps n (s .ledger))
+
+  -- nor after this call on a block, where it answers the number that it was given
+  abbrev pub StaysWithoutCrumb : (ℕ → Call) → Type 0
+  StaysWithoutCrumb calls =
+      (n : ℕ) (s : State) → Run library n s → (b : ℕ) → told (library (calls b) (s .words) .answer) .block ≡ b
+      → crumbs (gaps n (after library (call (calls b)) s .ledger)) ≤ crumbs (gaps n (s .ledger))
+
+  -- and after this call on a block of the ledger at most one more: the block with its header, where that is a crumb
+  abbrev pub OneCrumbMore : (ℕ → Call) → Type 0
+  OneCrumbMore calls =
+      (n : ℕ) (s : State) → Run library n s → (e : Entry) → Listed (s .ledger) e
+      → crumbs (gaps n (after library (call (calls (e .block))) s .ledger)) ≤ crumb (headerWords + e .granted) + crumbs (gaps n (s .ledger))
+
+  -- "below that the whole chunk is granted": an alloc that is done grants just its need, or takes a gap whole
+  abbrev pub NeedOrGap : (ℕ → Call) → Type 0
+  NeedOrGap allocs =
+      (n : ℕ) (s : State) → Run library n s → (w : ℕ) → Done (library (allocs w) (s .words) .answer)
+      → (headerWords + told (library (allocs w) (s .words) .answer) .granted ≡ need w)
+      ⊎ (1 + holes (gaps n (after library (call (allocs w)) s .ledger)) ≡ holes (gaps n (s .ledger)))
+
+  -- and a block that is granted anew where it is has just its need, or no gap is left right above it
+  abbrev pub NeedOrRoom : (ℕ → ℕ → Call) → Type 0
+  NeedOrRoom resizes =
+      (n : ℕ) (s : State) → Run library n s → (below above : Ledger) (e : Entry) → s .ledger ≡ below ++ e ∷ above → (w : ℕ)
+      → let answer = library (resizes (e .block) w) (s .words) .answer in
+      Done answer → told answer .block ≡ e .block
+      → (headerWords + told answer .granted ≡ need w) ⊎ (gapFrom n (e .block + told answer .granted) above ≡ 0)
 
   -- a call on a block is answered 3 exactly for a number that is not in the ledger
   abbrev pub NeedsBlock : (ℕ → Call) → List ℕ → Ledger → Type 0

@@ -8,8 +8,8 @@ use Rattle.layout.specs.Numbers.{need}
 use Rattle.layout.proofs.Reasons.{number-positive}
 use Rattle.rules.specs.Answers.{Outcome, blockField}
 use Rattle.rules.specs.Calls.{resizeOn, relocateOn}
-use Rattle.rules.specs.Causes.{ResizeRefused, RelocateRefused}
-use Rattle.rules.proofs.CallCases.{Case, refuses, does}
+use Rattle.rules.specs.Causes.{ResizeRefused}
+use Rattle.rules.proofs.CallCases.{Case, refuses, does, done-does}
 use Rattle.rules.proofs.Searches.{block-sizes}
 use Rattle.rules.proofs.Remainder.{cut-numbers}
 use Rattle.rules.proofs.OldBlock.{order, old-apart}
@@ -25,14 +25,12 @@ resize-stays a b n = go (resize-case a b n)
     go (does (resizes e r pre s post is keep k)) code = refl
 
 -- a move that is done answers another number than it was given
+pub relocated-elsewhere : (a : List ℕ) (b n : ℕ) (values after : List ℕ) → Relocates a b n values after → blockField values ≢ b
+relocated-elsewhere a b n values words (moves e r pre s post is before g after (same, enough) block at-is ks _ count shorter) q =
+    let z = block-sizes a b pre s post e is .1 in
+    let c = cut-numbers (need n) g enough in
+    ⊎-elim (λ (above : _). omega (arith, above, z, at-is, is .number-is)) (λ (below : _). omega (arith, below, c .enough, at-is, is .number-is))
+    (old-apart (need n) pre s post before g after (order pre s post before g after (sym (is .same) ∙ same)))
+
 pub relocate-moves : (a : List ℕ) (b n : ℕ) → relocateOn a b n .answer .code ≡ 0 → blockField (relocateOn a b n .answer .values) ≢ b
-relocate-moves a b n = go (relocate-case a b n)
-  where
-    go : {outcome : Outcome} → Case 2 a (RelocateRefused a b n) (Relocates a b n) outcome → outcome .answer .code ≡ 0
-        → blockField (outcome .answer .values) ≢ b
-    go (refuses why r) code q = omega (arith, number-positive why)
-    go (does (moves e r pre s post is before g after (same, enough) block at-is ks _ count shorter)) code q =
-        let z = block-sizes a b pre s post e is .1 in
-        let c = cut-numbers (need n) g enough in
-        ⊎-elim (λ (above : _). omega (arith, above, z, at-is, is .number-is)) (λ (below : _). omega (arith, below, c .enough, at-is, is .number-is))
-        (old-apart (need n) pre s post before g after (order pre s post before g after (sym (is .same) ∙ same)))
+relocate-moves a b n code = relocated-elsewhere a b n _ _ (done-does (relocate-case a b n) code)

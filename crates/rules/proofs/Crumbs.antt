@@ -1,5 +1,5 @@
--- Fewer crumbs: an alloc or a resize leaves no more crumbs than there were, and any call at most one more, which is the
--- chunk that it freed.
+-- Fewer crumbs: an alloc, a resize, and a realloc that leaves the block where it is, leave no more crumbs than there
+-- were; a free, a move and any realloc at most one more, the chunk that was freed, where that is one.
 use mathlib.Core.Path.{_≡_, refl, ap, _∙_}
 use mathlib.Core.Bool.{Bool, true, false, _&&_, cond}
 use mathlib.Core.List.{List, [], _∷_, _++_}
@@ -15,22 +15,28 @@ use Rattle.layout.specs.Walk.{sound, chunksOf}
 use Rattle.layout.specs.declared.Reason.{Reason}
 use Rattle.layout.proofs.Holds.{Lawful}
 use Rattle.layout.proofs.Round.{sound-lawful, written-sound}
-use Rattle.rules.specs.Answers.{Outcome}
+use Rattle.rules.specs.Answers.{Outcome, blockField}
 use Rattle.rules.specs.Spots.{held}
 use Rattle.rules.specs.Rules.{cut, trim, join, joined, released, copied}
 use Rattle.rules.specs.Rooms.{roomWords, roomAfter}
-use Rattle.rules.specs.Crumbs.{crumb, crumbs, freeSizes}
+use Rattle.rules.specs.Crumbs.{hole, crumb, counted, crumbs, freeSizes}
 use Rattle.rules.specs.Calls.{allocOn, freeOn, resizeOn, relocateOn, reallocOn}
+use Rattle.rules.specs.Causes.{ReallocRefused}
 use Rattle.rules.proofs.Remainder.{Remainder, split, whole, remainder}
 use Rattle.rules.proofs.Rooms.{roomTail, room-split}
 use Rattle.rules.proofs.Staying.{KeepsOfRoom, splits-rest, hands-over, its-room}
+use Rattle.rules.proofs.Searches.{BlockAt, one-block}
 use Rattle.rules.proofs.OldBlock.{StillThere, still-there}
 use Rattle.rules.proofs.Gates.{request-needed}
 use Rattle.rules.proofs.CallCases.{Case, refuses, does, Allots, allots, Frees, frees, alloc-case, free-case}
 use Rattle.rules.proofs.RegrantCases.{Resizes, resizes, Relocates, moves, Regrants, in-place, elsewhere, resize-case, relocate-case, realloc-case}
 use Rattle.rules.proofs.Keeping.{freed-lawful, allots-lawful, resizes-lawful}
+use Rattle.rules.proofs.BlockNumbers.{relocated-elsewhere}
 
 -- ---- one stretch of free words
+
+pub a-hole : (words : ℕ) → 0 < words → hole words ≡ 1
+a-hole words some = rw (lt-ltb 0 words some)
 
 crumb-most : (words : ℕ) → crumb words ≤ 1
 crumb-most words = go (ltb 0 words && ltb words leastSplit)
@@ -51,7 +57,7 @@ no-crumb words long = rw (le-ltb words leastSplit long) (go (ltb 0 words))
 pub a-crumb : (words : ℕ) → 0 < words → words < leastSplit → crumb words ≡ 1
 a-crumb words some few = rw (lt-ltb 0 words some, lt-ltb words leastSplit few)
 
--- a stretch that becomes longer is none that it was not
+-- a stretch that becomes longer is a crumb only if it was one
 crumb-longer : (words more : ℕ) → 0 < words → words ≤ more → crumb more ≤ crumb words
 crumb-longer words more some longer = go (ltb more leastSplit) refl
   where
@@ -59,7 +65,7 @@ crumb-longer words more some longer = go (ltb more leastSplit) refl
     go true e = omega (arith, crumb-most more, a-crumb words some (omega (arith, ltb-true more leastSplit e)))
     go false e = omega (arith, no-crumb more (ltb-false more leastSplit e))
 
--- two that are joined are one
+-- two that are joined are no more crumbs than they were
 crumb-joined : (s t : ℕ) → crumb (s + t) ≤ crumb s + crumb t
 crumb-joined zero t = omega (arith, ap crumb (zero-add t))
 crumb-joined (suc s) t = omega (arith, crumb-longer (suc s) (suc s + t) (omega arith) (omega arith))
@@ -69,10 +75,11 @@ crumb-joined (suc s) t = omega (arith, crumb-longer (suc s) (suc s + t) (omega a
 abbrev crumbsIn : List Chunk → ℕ
 crumbsIn ks = crumbs (freeSizes ks)
 
-crumbs-append : (ks ls : List Chunk) → crumbsIn (ks ++ ls) ≡ crumbsIn ks + crumbsIn ls
-crumbs-append [] ls = omega arith
-crumbs-append (free s ∷ ks) ls = omega (arith, crumbs-append ks ls)
-crumbs-append (live s ∷ ks) ls = crumbs-append ks ls
+pub counted-append : (count : ℕ → ℕ) (ks ls : List Chunk)
+    → counted count (freeSizes (ks ++ ls)) ≡ counted count (freeSizes ks) + counted count (freeSizes ls)
+counted-append count [] ls = omega arith
+counted-append count (free s ∷ ks) ls = omega (arith, counted-append count ks ls)
+counted-append count (live s ∷ ks) ls = counted-append count ks ls
 
 -- chunks in the middle are replaced by others
 crumbs-replaced : (pre old new post : List Chunk) (more : ℕ) → crumbsIn new ≤ more + crumbsIn old
@@ -81,10 +88,10 @@ crumbs-replaced pre old new post more few =
     omega (
       arith,
       few,
-      crumbs-append pre (new ++ post),
-      crumbs-append new post,
-      crumbs-append pre (old ++ post),
-      crumbs-append old post,
+      counted-append crumb pre (new ++ post),
+      counted-append crumb new post,
+      counted-append crumb pre (old ++ post),
+      counted-append crumb old post,
     )
 
 -- a need is taken from a free chunk: what stays free of it is no crumb
@@ -132,22 +139,22 @@ written-crumbs ks a more l few = rw (written-sound ks a l .1) few
 
 -- a chunk is freed
 freed-crumbs : (a : List ℕ) (pre : List Chunk) (s : ℕ) (post : List Chunk) → sound a ≡ true → chunksOf a ≡ pre ++ live s ∷ post
-    → crumbsOf (written (joined (pre ++ free s ∷ post)) a) ≤ 1 + crumbsOf a
+    → crumbsOf (written (joined (pre ++ free s ∷ post)) a) ≤ crumb s + crumbsOf a
 freed-crumbs a pre s post e same =
-    written-crumbs _ a 1 (freed-lawful a e pre s post same)
+    written-crumbs _ a (crumb s) (freed-lawful a e pre s post same)
     (rw same
     (omega (
       arith,
       joined-crumbs (pre ++ free s ∷ post),
-      crumbs-replaced pre (live s ∷ []) (free s ∷ []) post 1 (omega (arith, crumb-most s)),
+      crumbs-replaced pre (live s ∷ []) (free s ∷ []) post (crumb s) (omega arith),
     )))
 
 -- a refused call keeps the words, so all depends on what is done
-left : {fields : ℕ} {a : List ℕ} {Refuses : Reason → Type 0} {Does : List ℕ → List ℕ → Type 0} {outcome : Outcome} (more : ℕ)
+case-crumbs : {fields : ℕ} {a : List ℕ} {Refuses : Reason → Type 0} {Does : List ℕ → List ℕ → Type 0} {outcome : Outcome} (more : ℕ)
     → ((values after : List ℕ) → Does values after → crumbsOf after ≤ more + crumbsOf a) → Case fields a Refuses Does outcome
     → crumbsOf (outcome .words) ≤ more + crumbsOf a
-left more f (refuses why r) = omega arith
-left more f (does {values} {after} d) = f values after d
+case-crumbs more f (refuses why r) = omega arith
+case-crumbs more f (does {values} {after} d) = f values after d
 
 -- ---- what the calls do
 
@@ -157,9 +164,6 @@ module _ (a : List ℕ) where
       written-crumbs _ a 0 (allots-lawful a e n r pre s post (same, enough))
       (rw same (crumbs-replaced pre (free s ∷ []) (cut (need n) s) post 0 (cut-crumbs (need n) s enough)))
 
-  frees-crumbs : (b : ℕ) (values after : List ℕ) → Frees a b values after → crumbsOf after ≤ 1 + crumbsOf a
-  frees-crumbs b values after (frees e pre s post is) = freed-crumbs a pre s post e (is .same)
-
   resizes-crumbs : (b n : ℕ) (values after : List ℕ) → Resizes a b n values after → crumbsOf after ≤ 0 + crumbsOf a
   resizes-crumbs b n values after (resizes e r pre s post is keep k) =
       written-crumbs _ a 0 (resizes-lawful a e b n r pre s post is keep k)
@@ -168,36 +172,53 @@ module _ (a : List ℕ) where
 
   -- a block moves: the old one is freed where the need was granted
   moved-crumbs : (b block count s : ℕ) (ks : List Chunk) → StillThere (copied b block count (written ks a)) b s ks → crumbsIn ks ≤ 0 + crumbsOf a
-      → crumbsOf (written (released (held b ks)) (copied b block count (written ks a))) ≤ 1 + crumbsOf a
+      → crumbsOf (written (released (held b ks)) (copied b block count (written ks a))) ≤ crumb s + crumbsOf a
   moved-crumbs b block count s ks (is-sound, chunks, pre, post, old, found) few =
       let freed = freed-crumbs (copied b block count (written ks a)) pre s post is-sound (chunks ∙ old .same) in
       rw found (omega (arith, freed, few, ap crumbsIn chunks))
 
-  relocates-crumbs : (b n : ℕ) (values after : List ℕ) → Relocates a b n values after → crumbsOf after ≤ 1 + crumbsOf a
-  relocates-crumbs b n values after (moves e r pre s post is before g behind gap block at-is ks same count shorter) =
-      rw same
-      (moved-crumbs b block count s _
-      (still-there a (need n) pre s post before g behind b block count e (request-needed (length a) n (sound-lawful a e) r) is gap
-      (omega arith) at-is)
-      (rw (gap .0) (crumbs-replaced before (free g ∷ []) (cut (need n) g) behind 0 (cut-crumbs (need n) g (gap .1)))))
-
-  regrants-crumbs : (b n : ℕ) (values after : List ℕ) → Regrants a b n values after → crumbsOf after ≤ 1 + crumbsOf a
-  regrants-crumbs b n values after (in-place d) = omega (arith, resizes-crumbs b n values after d)
-  regrants-crumbs b n values after (elsewhere d) = relocates-crumbs b n values after d
-
   -- ---- the calls, done or refused
 
   pub alloc-crumbs : (n : ℕ) → crumbsOf (allocOn a n .words) ≤ crumbsOf a
-  alloc-crumbs n = omega (arith, left 0 (allots-crumbs n) (alloc-case a n))
+  alloc-crumbs n = omega (arith, case-crumbs 0 (allots-crumbs n) (alloc-case a n))
 
   pub resize-crumbs : (b n : ℕ) → crumbsOf (resizeOn a b n .words) ≤ crumbsOf a
-  resize-crumbs b n = omega (arith, left 0 (resizes-crumbs b n) (resize-case a b n))
+  resize-crumbs b n = omega (arith, case-crumbs 0 (resizes-crumbs b n) (resize-case a b n))
 
-  pub free-crumbs : (b : ℕ) → crumbsOf (freeOn a b .words) ≤ 1 + crumbsOf a
-  free-crumbs b = left 1 (frees-crumbs b) (free-case a b)
+  -- a realloc that answers the number that it was given
+  pub realloc-stays-crumbs : (b n : ℕ) → blockField (reallocOn a b n .answer .values) ≡ b → crumbsOf (reallocOn a b n .words) ≤ crumbsOf a
+  realloc-stays-crumbs b n = go (realloc-case a b n)
+    where
+      go : {outcome : Outcome} → Case 2 a (ReallocRefused a b n) (Regrants a b n) outcome → blockField (outcome .answer .values) ≡ b
+          → crumbsOf (outcome .words) ≤ crumbsOf a
+      go (refuses why r) stays = omega arith
+      go (does {values} {after} (in-place d)) stays = omega (arith, resizes-crumbs b n values after d)
+      go (does {values} {after} (elsewhere d)) stays = absurd (relocated-elsewhere a b n values after d stays)
 
-  pub relocate-crumbs : (b n : ℕ) → crumbsOf (relocateOn a b n .words) ≤ 1 + crumbsOf a
-  relocate-crumbs b n = left 1 (relocates-crumbs b n) (relocate-case a b n)
+  -- ---- those that free the block, which is a chunk of `s` words
 
-  pub realloc-crumbs : (b n : ℕ) → crumbsOf (reallocOn a b n .words) ≤ 1 + crumbsOf a
-  realloc-crumbs b n = left 1 (regrants-crumbs b n) (realloc-case a b n)
+  module _ (b : ℕ) (pre : List Chunk) (s : ℕ) (post : List Chunk) (is : BlockAt a b pre s post) where
+    frees-crumbs : (values after : List ℕ) → Frees a b values after → crumbsOf after ≤ crumb s + crumbsOf a
+    frees-crumbs values after (frees e pre′ s′ post′ is′) =
+        rw (one-block a b pre′ pre s′ s post′ post e is′ is .0) (freed-crumbs a pre′ s′ post′ e (is′ .same))
+
+    relocates-crumbs : (n : ℕ) (values after : List ℕ) → Relocates a b n values after → crumbsOf after ≤ crumb s + crumbsOf a
+    relocates-crumbs n values after (moves e r pre′ s′ post′ is′ before g behind gap block at-is ks same count shorter) =
+        rw (same, one-block a b pre′ pre s′ s post′ post e is′ is .0)
+        (moved-crumbs b block count s′ _
+        (still-there a (need n) pre′ s′ post′ before g behind b block count e (request-needed (length a) n (sound-lawful a e) r) is′ gap
+        (omega arith) at-is)
+        (rw (gap .0) (crumbs-replaced before (free g ∷ []) (cut (need n) g) behind 0 (cut-crumbs (need n) g (gap .1)))))
+
+    regrants-crumbs : (n : ℕ) (values after : List ℕ) → Regrants a b n values after → crumbsOf after ≤ crumb s + crumbsOf a
+    regrants-crumbs n values after (in-place d) = omega (arith, resizes-crumbs b n values after d)
+    regrants-crumbs n values after (elsewhere d) = relocates-crumbs n values after d
+
+    pub free-crumbs : crumbsOf (freeOn a b .words) ≤ crumb s + crumbsOf a
+    free-crumbs = case-crumbs (crumb s) frees-crumbs (free-case a b)
+
+    pub relocate-crumbs : (n : ℕ) → crumbsOf (relocateOn a b n .words) ≤ crumb s + crumbsOf a
+    relocate-crumbs n = case-crumbs (crumb s) (relocates-crumbs n) (relocate-case a b n)
+
+    pub realloc-crumbs : (n : ℕ) → crumbsOf (reallocOn a b n .words) ≤ crumb s + crumbsOf a
+    realloc-crumbs n = case-crumbs (crumb s) (regrants-crumbs n) (realloc-case a b n)

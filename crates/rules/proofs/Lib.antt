@@ -23,7 +23,8 @@ pub mod Calls
 pub mod ReportCounts
 pub mod Largest
 pub mod Shrinking
-pub mod Crumbs
 pub mod EmptyViews
 pub mod BlockNumbers
+pub mod Crumbs
+pub mod Wholes
 pub mod Batches

@@ -108,6 +108,14 @@ pub block-held : (a : List ℕ) (b : ℕ) (pre : List Chunk) (s : ℕ) (post : L
     → held b (chunksOf a) ≡ at pre (live s) post
 block-held a b pre s post e is = held-at (chunksOf a) pre s post b (sound-chunks a e .law .sizes) is
 
+-- there is one block of a number
+pub one-block : (a : List ℕ) (b : ℕ) (pre pre′ : List Chunk) (s s′ : ℕ) (post post′ : List Chunk) → sound a ≡ true → BlockAt a b pre s post
+    → BlockAt a b pre′ s′ post′ → (s′ ≡ s) × (post′ ≡ post)
+one-block a b pre pre′ s s′ post post′ e is is′ =
+    let held = block-held a b pre s post e is in
+    let held′ = block-held a b pre′ s′ post′ e is′ in
+    (cc, cc)
+
 -- ---- the search for a free chunk that fits
 
 pub data GapSearch (a : List ℕ) (need : ℕ) : Spot → Type 0 where

@@ -102,7 +102,8 @@ module _ (a : List ℕ) (b : ℕ) (pre : List Chunk) (s : ℕ) (post : List Chun
   enough : need n ≤ roomWords s post
   enough = omega (arith, few-over (need n) s post none, room-words s post)
 
-  -- "If 0 or 2 are over, nothing is written." Beside a free chunk: only if none are over
+  -- "If 0 or 2 are over, nothing is written": nor with any number that is not split off. Beside a free chunk: only if
+  -- none are over
   pub resize-keeps : resizeOn a b n .words ≡ a
   resize-keeps = ap (λ (o : Outcome). o .words) (resize-stayed a b pre s post e is n r enough) ∙ stayed-same a b pre s post e is n r enough none
 

@@ -1,0 +1,124 @@
+-- Item 6 in a ledger's gaps: how many crumbs a call leaves, and that a grant beyond its need takes all that is there.
+use mathlib.Core.Path.{_≡_, refl, ap, _∙_}
+use mathlib.Core.Logic.{inl, inr, ⊎-elim}
+use mathlib.Core.Bool.{Bool, true, false, true≢false}
+use mathlib.Core.List.{List, [], _∷_, _++_}
+use Prim.Native.Nat.{ℕ, _+_, _-_, _≤_}
+use native.Mathlib.Omega.{arith}
+use Rattle.layout.specs.Numbers.{firstChunk, headerWords}
+use Rattle.layout.specs.Chunks.{Chunk, free, live}
+use Rattle.layout.specs.Walk.{chunksOf}
+use Rattle.layout.proofs.Holds.{Spaced}
+use Rattle.rules.specs.Rooms.{roomWords}
+use Rattle.rules.specs.Crumbs.{hole, crumb, counted, freeSizes}
+use Rattle.rules.specs.Libraries.{Call, alloc, free as freeing, resize, relocate, realloc, ours}
+use Rattle.rules.proofs.Searches.{BlockAt}
+use Rattle.rules.proofs.Crumbs.{crumbsOf, alloc-crumbs, resize-crumbs, realloc-stays-crumbs, free-crumbs, relocate-crumbs, realloc-crumbs}
+use Rattle.rules.proofs.Wholes.{alloc-whole, resize-whole, realloc-whole}
+use Rattle.ledger.specs.Events.{call}
+use Rattle.ledger.specs.Ledger.{Entry, Ledger, ends}
+use Rattle.ledger.specs.Gaps.{gapFrom, gaps}
+use Rattle.ledger.specs.Runs.{State, Run, after, next}
+use Rattle.ledger.specs.Demands.{NoMoreCrumbs, StaysWithoutCrumb, OneCrumbMore, NeedOrGap, NeedOrRoom}
+use Rattle.ledger.proofs.Blocks.{Chunked}
+use Rattle.ledger.proofs.Agreeing.{Agrees, agrees-lawful, agrees-chunked, listed-chunked, chunked-block}
+use Rattle.ledger.proofs.Gaps.{gapsIn}
+use Rattle.ledger.proofs.WantOfRoom.{gaps-agree, block-whole, block-room}
+use Rattle.ledger.proofs.Runs.{run-agrees}
+
+-- ---- what the gaps count is what the free chunks count, where a gap of 0 words counts nothing
+
+-- no two free chunks stand in a row, so a gap is a free chunk, or has no words; `p` free words stand right before `ks`
+gaps-counted : (count : ℕ → ℕ) → count 0 ≡ 0 → (p : ℕ) (joined : Bool) (ks : List Chunk) → Spaced joined ks → (joined ≡ false → p ≡ 0)
+    → counted count (gapsIn p ks) ≡ count p + counted count (freeSizes ks)
+gaps-counted count nothing p joined [] h j = refl
+gaps-counted count nothing p joined (free s ∷ ks) h j =
+    let none : p ≡ 0 = j (h .0) in
+    let later = gaps-counted count nothing s true ks (h .1) (λ e. absurd (true≢false e)) in
+    rw none (ap (λ (q : ℕ). counted count (gapsIn q ks)) (omega arith) ∙ later ∙ omega (arith, nothing))
+gaps-counted count nothing p joined (live s ∷ ks) h j = omega (arith, nothing, gaps-counted count nothing 0 false ks h (λ e. refl))
+
+agrees-counted : (count : ℕ → ℕ) → count 0 ≡ 0 → (n : ℕ) (a : List ℕ) (ledger : Ledger) → Agrees n a ledger
+    → counted count (gaps n ledger) ≡ counted count (freeSizes (chunksOf a))
+agrees-counted count nothing n a ledger g =
+    rw (gaps-agree n a ledger g)
+    (gaps-counted count nothing 0 false (chunksOf a) (agrees-lawful n a ledger g .spaced) (λ e. refl) ∙ omega (arith, nothing))
+
+-- in a run, and after one call more
+run-counted : (count : ℕ → ℕ) → count 0 ≡ 0 → {n : ℕ} {s : State} → Run ours n s
+    → counted count (gaps n (s .ledger)) ≡ counted count (freeSizes (chunksOf (s .words)))
+run-counted count nothing run = agrees-counted count nothing _ _ _ (run-agrees run)
+
+-- ---- crumbs
+
+-- so it is enough to look at the arena
+by-arena : {n : ℕ} {s : State} → Run ours n s → (c : Call) (more : ℕ) → crumbsOf (ours c (s .words) .words) ≤ more + crumbsOf (s .words)
+    → counted crumb (gaps n (after ours (call c) s .ledger)) ≤ more + counted crumb (gaps n (s .ledger))
+by-arena run c more few = omega (arith, few, run-counted crumb refl run, run-counted crumb refl (next run (call c) tt))
+
+pub crumbs-after-alloc : (w : ℕ) → NoMoreCrumbs ours (alloc w)
+crumbs-after-alloc w n s run = omega (arith, by-arena run (alloc w) 0 (omega (arith, alloc-crumbs (s .words) w)))
+
+pub crumbs-after-resize : (b w : ℕ) → NoMoreCrumbs ours (resize b w)
+crumbs-after-resize b w n s run = omega (arith, by-arena run (resize b w) 0 (omega (arith, resize-crumbs (s .words) b w)))
+
+pub realloc-stays-without-crumb : (w : ℕ) → StaysWithoutCrumb ours (λ b. realloc b w)
+realloc-stays-without-crumb w n s run b stays =
+    omega (arith, by-arena run (realloc b w) 0 (omega (arith, realloc-stays-crumbs (s .words) b w stays)))
+
+-- a block of the ledger is a chunk, with its header
+listed-crumbs : (calls : ℕ → Call)
+    → ((a : List ℕ) (b : ℕ) (pre : List Chunk) (s : ℕ) (post : List Chunk) → BlockAt a b pre s post
+    → crumbsOf (ours (calls b) a .words) ≤ crumb s + crumbsOf a)
+    → OneCrumbMore ours calls
+listed-crumbs calls few n s run e listed =
+    let g = run-agrees run in
+    let (above, k) = listed-chunked n (s .words) (s .ledger) g e listed in
+    rw (block-whole n (s .words) (s .ledger) g above e k)
+    (by-arena run (calls (e .block)) (crumb (k .s)) (few (s .words) (e .block) (k .pre) (k .s) (k .post) (chunked-block k)))
+
+pub crumbs-after-free : OneCrumbMore ours freeing
+crumbs-after-free = listed-crumbs freeing free-crumbs
+
+pub crumbs-after-relocate : (w : ℕ) → OneCrumbMore ours (λ b. relocate b w)
+crumbs-after-relocate w = listed-crumbs (λ b. relocate b w) (λ a b pre s post is. relocate-crumbs a b pre s post is w)
+
+pub crumbs-after-realloc : (w : ℕ) → OneCrumbMore ours (λ b. realloc b w)
+crumbs-after-realloc w = listed-crumbs (λ b. realloc b w) (λ a b pre s post is. realloc-crumbs a b pre s post is w)
+
+-- ---- a grant beyond its need
+
+pub alloc-need-or-gap : NeedOrGap ours alloc
+alloc-need-or-gap n s run w done =
+    let before = run-counted hole refl run in
+    let after-it = run-counted hole refl (next run (call (alloc w)) tt) in
+    ⊎-elim inl (λ one. inr (omega (arith, one, before, after-it))) (alloc-whole (s .words) w done)
+
+-- a gap that begins so many words later has so many words less
+gap-later : (n c more : ℕ) (above : Ledger) → gapFrom n (c + more) above ≡ gapFrom n c above - more
+gap-later n c more [] = omega arith
+gap-later n c more (e ∷ es) = omega arith
+
+module _ (n : ℕ) (s : State) (run : Run ours n s) (below above : Ledger) (e : Entry) (q : s .ledger ≡ below ++ e ∷ above) where
+  chunk : Chunked firstChunk (chunksOf (s .words)) e above
+  chunk = agrees-chunked n (s .words) (s .ledger) (run-agrees run) below e above q
+
+  -- a block that has its whole room has no gap right above it
+  whole-room : (granted : ℕ) → headerWords + granted ≡ roomWords (chunk .s) (chunk .post) → gapFrom n (e .block + granted) above ≡ 0
+  whole-room granted all =
+      let room = block-room n (s .words) (s .ledger) (run-agrees run) above e chunk in
+      let gap = gapFrom n (ends e) above in
+      let end : e .block + granted ≡ ends e + gap = omega (arith, room, all) in
+      ap (λ (c : ℕ). gapFrom n c above) end ∙ gap-later n (ends e) gap above ∙ omega arith
+
+pub resize-need-or-room : NeedOrRoom ours resize
+resize-need-or-room n s run below above e q w done stays =
+    let k = chunk n s run below above e q in
+    ⊎-elim inl (λ all. inr (whole-room n s run below above e q _ all))
+    (resize-whole (s .words) (e .block) (k .pre) (k .s) (k .post) (chunked-block k) w done)
+
+pub realloc-need-or-room : NeedOrRoom ours realloc
+realloc-need-or-room n s run below above e q w done stays =
+    let k = chunk n s run below above e q in
+    ⊎-elim inl (λ all. inr (whole-room n s run below above e q _ all))
+    (realloc-whole (s .words) (e .block) (k .pre) (k .s) (k .post) (chunked-block k) w done stays)
