@@ -253,18 +253,22 @@ def order_rows():
 # a block gives up any number. Each row is asked with an even number of words, and with the odd one below it.
 
 
+def rows_asked(calls, block, before, left):
+    """Each of the calls, asked for each number of words; `left` has the numbers, the answer and the words left."""
+    for call in calls:
+        for numbers, fields, after in left:
+            for asked in numbers:
+                yield done(call, block, asked, before, fields, after)
+
+
 def over_in_alloc_rows():
     """Alloc takes a free chunk of 14 words whole with up to six over, and its last words with eight or ten over."""
     before = f"20 2 | 14 0 {counted(4, 15)} | 4 live 1018 1019"
     whole = f"20 0 | 14 live {counted(4, 15)} | 4 live 1018 1019"
     eight = f"20 2 | 8 0 {counted(4, 9)} | 6 live {counted(12, 15)} | 4 live 1018 1019"
     ten = f"20 2 | 10 0 {counted(4, 11)} | 4 live 1014 1015 | 4 live 1018 1019"
-    for asked in range(5, 13):
-        yield done(ALLOC, 0, asked, before, (4, 12), whole)
-    for asked in (3, 4):
-        yield done(ALLOC, 0, asked, before, (12, 4), eight)
-    for asked in (1, 2):
-        yield done(ALLOC, 0, asked, before, (14, 2), ten)
+    left = [(range(5, 13), (4, 12), whole), ((3, 4), (12, 4), eight), ((1, 2), (14, 2), ten)]
+    yield from rows_asked([ALLOC], 0, before, left)
 
 
 def over_before_live_rows():
@@ -272,13 +276,8 @@ def over_before_live_rows():
     before = f"20 0 | 14 live {counted(4, 15)} | 4 live 1018 1019"
     eight = f"20 8 | 6 live {counted(4, 7)} | 8 0 {counted(10, 15)} | 4 live 1018 1019"
     ten = f"20 6 | 4 live 1004 1005 | 10 0 {counted(8, 15)} | 4 live 1018 1019"
-    for call in (RESIZE, REALLOC):
-        for asked in range(5, 13):
-            yield done(call, 4, asked, before, (4, 12), before)
-        for asked in (3, 4):
-            yield done(call, 4, asked, before, (4, 4), eight)
-        for asked in (1, 2):
-            yield done(call, 4, asked, before, (4, 2), ten)
+    left = [(range(5, 13), (4, 12), before), ((3, 4), (4, 4), eight), ((1, 2), (4, 2), ten)]
+    yield from rows_asked([RESIZE, REALLOC], 4, before, left)
 
 
 def over_at_end_rows():
@@ -286,44 +285,33 @@ def over_at_end_rows():
     before = f"20 2 | 4 0 1004 1005 | 14 live {counted(8, 19)}"
     eight = f"20 2 | 4 12 1004 1005 | 6 live {counted(8, 11)} | 8 0 {counted(14, 19)}"
     ten = f"20 2 | 4 10 1004 1005 | 4 live 1008 1009 | 10 0 {counted(12, 19)}"
-    for call in (RESIZE, REALLOC):
-        for asked in range(5, 13):
-            yield done(call, 8, asked, before, (8, 12), before)
-        for asked in (3, 4):
-            yield done(call, 8, asked, before, (8, 4), eight)
-        for asked in (1, 2):
-            yield done(call, 8, asked, before, (8, 2), ten)
+    left = [(range(5, 13), (8, 12), before), ((3, 4), (8, 4), eight), ((1, 2), (8, 2), ten)]
+    yield from rows_asked([RESIZE, REALLOC], 8, before, left)
 
 
 def over_before_four_rows():
     """A block before a free chunk of four words gives it all that are over, and takes nothing of it."""
     before = f"20 16 | 14 live {counted(4, 15)} | 4 0 1018 1019"
-    left = {12: before,
-            10: f"20 14 | 12 live {counted(4, 13)} | 6 0 4 0 1018 1019",
-            8: f"20 12 | 10 live {counted(4, 11)} | 8 0 1014 1015 4 0 1018 1019",
-            6: f"20 10 | 8 live {counted(4, 9)} | 10 0 {counted(12, 15)} 4 0 1018 1019",
-            4: f"20 8 | 6 live {counted(4, 7)} | 12 0 {counted(10, 15)} 4 0 1018 1019",
-            2: f"20 6 | 4 live 1004 1005 | 14 0 {counted(8, 15)} 4 0 1018 1019"}
-    for call in (RESIZE, REALLOC):
-        for granted, after in left.items():
-            yield done(call, 4, granted, before, (4, granted), after)
-            yield done(call, 4, granted - 1, before, (4, granted), after)
+    left = [((11, 12), (4, 12), before),
+            ((9, 10), (4, 10), f"20 14 | 12 live {counted(4, 13)} | 6 0 4 0 1018 1019"),
+            ((7, 8), (4, 8), f"20 12 | 10 live {counted(4, 11)} | 8 0 1014 1015 4 0 1018 1019"),
+            ((5, 6), (4, 6), f"20 10 | 8 live {counted(4, 9)} | 10 0 {counted(12, 15)} 4 0 1018 1019"),
+            ((3, 4), (4, 4), f"20 8 | 6 live {counted(4, 7)} | 12 0 {counted(10, 15)} 4 0 1018 1019"),
+            ((1, 2), (4, 2), f"20 6 | 4 live 1004 1005 | 14 0 {counted(8, 15)} 4 0 1018 1019")]
+    yield from rows_asked([RESIZE, REALLOC], 4, before, left)
 
 
 def over_before_ten_rows():
     """A block before a free chunk of ten words gives it all that are over; its link goes with its start."""
     behind = f"10 30 {counted(18, 25)} | 4 live 1028 1029 | 4 0 1032 1033"
     before = f"34 16 | 14 live {counted(4, 15)} | {behind}"
-    left = {12: before,
-            10: f"34 14 | 12 live {counted(4, 13)} | 12 30 {behind}",
-            8: f"34 12 | 10 live {counted(4, 11)} | 14 30 1014 1015 {behind}",
-            6: f"34 10 | 8 live {counted(4, 9)} | 16 30 {counted(12, 15)} {behind}",
-            4: f"34 8 | 6 live {counted(4, 7)} | 18 30 {counted(10, 15)} {behind}",
-            2: f"34 6 | 4 live 1004 1005 | 20 30 {counted(8, 15)} {behind}"}
-    for call in (RESIZE, REALLOC):
-        for granted, after in left.items():
-            yield done(call, 4, granted, before, (4, granted), after)
-            yield done(call, 4, granted - 1, before, (4, granted), after)
+    left = [((11, 12), (4, 12), before),
+            ((9, 10), (4, 10), f"34 14 | 12 live {counted(4, 13)} | 12 30 {behind}"),
+            ((7, 8), (4, 8), f"34 12 | 10 live {counted(4, 11)} | 14 30 1014 1015 {behind}"),
+            ((5, 6), (4, 6), f"34 10 | 8 live {counted(4, 9)} | 16 30 {counted(12, 15)} {behind}"),
+            ((3, 4), (4, 4), f"34 8 | 6 live {counted(4, 7)} | 18 30 {counted(10, 15)} {behind}"),
+            ((1, 2), (4, 2), f"34 6 | 4 live 1004 1005 | 20 30 {counted(8, 15)} {behind}")]
+    yield from rows_asked([RESIZE, REALLOC], 4, before, left)
 
 
 def over_in_grow_rows():
@@ -333,13 +321,8 @@ def over_in_grow_rows():
     whole = f"28 24 | 18 live 1004 1005 14 24 {counted(8, 19)} | {behind}"
     eight = f"28 12 | 10 live 1004 1005 14 24 {counted(8, 11)} | 8 24 {counted(14, 19)} | {behind}"
     ten = f"28 10 | 8 live 1004 1005 14 24 1008 1009 | 10 24 {counted(12, 19)} | {behind}"
-    for call in (RESIZE, REALLOC):
-        for asked in range(9, 17):
-            yield done(call, 4, asked, before, (4, 16), whole)
-        for asked in (7, 8):
-            yield done(call, 4, asked, before, (4, 8), eight)
-        for asked in (5, 6):
-            yield done(call, 4, asked, before, (4, 6), ten)
+    left = [(range(9, 17), (4, 16), whole), ((7, 8), (4, 8), eight), ((5, 6), (4, 6), ten)]
+    yield from rows_asked([RESIZE, REALLOC], 4, before, left)
 
 
 def over_in_move_rows():
@@ -350,13 +333,8 @@ def over_in_move_rows():
     ten = f"22 2 | 10 18 {counted(4, 11)} | 6 live 1020 1021 1016 1017 | 4 0 1020 1021"
     for asked in range(3, 15):
         yield refused(RESIZE, 20, asked, before, 8)
-    for call in (RELOCATE, REALLOC):
-        for asked in range(7, 15):
-            yield done(call, 20, asked, before, (4, 14), whole)
-        for asked in (5, 6):
-            yield done(call, 20, asked, before, (12, 6), eight)
-        for asked in (3, 4):
-            yield done(call, 20, asked, before, (14, 4), ten)
+    left = [(range(7, 15), (4, 14), whole), ((5, 6), (12, 6), eight), ((3, 4), (14, 4), ten)]
+    yield from rows_asked([RELOCATE, REALLOC], 20, before, left)
 
 
 def short_gap_rows():
