@@ -1,17 +1,20 @@
 -- The gaps of a list of chunks: the runs of free words before, between and above its live blocks.
-use mathlib.Core.Path.{_≡_, refl, ap}
+use mathlib.Core.Path.{_≡_, refl, ap, _∙_}
 use mathlib.Core.Logic.{_↔_}
 use mathlib.Core.Bool.{Bool, true, false, true≢false}
 use mathlib.Core.List.{List, [], _∷_, _++_}
 use Prim.Native.Nat.{ℕ, _+_, _-_, _≤_, _<_}
 use native.Mathlib.Omega.{arith}
+use borrow.Author.Tests.{lt-ltb}
 use Rattle.layout.specs.Numbers.{headerWords}
 use Rattle.layout.specs.Chunks.{Chunk, free, live, total}
 use Rattle.layout.proofs.Holds.{Sizes, Spaced}
+use Rattle.rules.specs.Rules.{freeChunks}
 use Rattle.rules.specs.Rooms.{roomWords}
+use Rattle.rules.specs.Crumbs.{counted, freeSizes}
 use Rattle.rules.proofs.Searches.{FreeShorter, free-shorter-tail}
 use Rattle.ledger.specs.Ledger.{blocksFrom}
-use Rattle.ledger.specs.Gaps.{gapFrom, gapsFrom, EachShorter}
+use Rattle.ledger.specs.Gaps.{gapFrom, gapsFrom, EachShorter, hole, holes}
 
 -- the gaps of `ks`, where `p` free words stand right before them
 abbrev pub gapsIn : ℕ → List Chunk → List ℕ
@@ -55,6 +58,27 @@ gaps-shorter need ks h one = (
   λ l pre s post e. gaps-free need 0 pre s post (rw e at l),
   free-gaps need 0 false ks h (λ e. refl) one,
 )
+
+-- ---- what gaps count is what free chunks count, where a gap of 0 words counts nothing
+
+-- no two free chunks stand in a row, so a gap is a free chunk, or has no words
+pub gaps-counted : (count : ℕ → ℕ) → count 0 ≡ 0 → (p : ℕ) (joined : Bool) (ks : List Chunk) → Spaced joined ks → (joined ≡ false → p ≡ 0)
+    → counted count (gapsIn p ks) ≡ count p + counted count (freeSizes ks)
+gaps-counted count nothing p joined [] h j = refl
+gaps-counted count nothing p joined (free s ∷ ks) h j =
+    let none : p ≡ 0 = j (h .0) in
+    let later = gaps-counted count nothing s true ks (h .1) (λ e. absurd (true≢false e)) in
+    rw none (ap (λ (q : ℕ). counted count (gapsIn q ks)) (omega arith) ∙ later ∙ omega (arith, nothing))
+gaps-counted count nothing p joined (live s ∷ ks) h j = omega (arith, nothing, gaps-counted count nothing 0 false ks h (λ e. refl))
+
+pub a-hole : (words : ℕ) → 0 < words → hole words ≡ 1
+a-hole words some = rw (lt-ltb 0 words some)
+
+-- each free chunk is a hole
+pub free-holes : (ks : List Chunk) → Sizes ks → holes (freeSizes ks) ≡ freeChunks ks
+free-holes [] z = refl
+free-holes (free s ∷ ks) z = omega (arith, a-hole s (omega (arith, z .1)), free-holes ks (z .2))
+free-holes (live s ∷ ks) z = free-holes ks (z .2)
 
 -- ---- the gap right above a block of `s` words, header counted, which ends at word `c`, where `post` begin
 

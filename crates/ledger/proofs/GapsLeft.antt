@@ -1,53 +1,44 @@
 -- Item 6 in a ledger's gaps: how many crumbs a call leaves, and that a grant beyond its need takes all that is there.
 use mathlib.Core.Path.{_≡_, refl, ap, _∙_}
-use mathlib.Core.Logic.{inl, inr, ⊎-elim}
-use mathlib.Core.Bool.{Bool, true, false, true≢false}
+use mathlib.Core.Logic.{_⊎_, inl, inr, ⊎-elim}
+use mathlib.Core.Bool.{false}
 use mathlib.Core.List.{List, [], _∷_, _++_}
 use Prim.Native.Nat.{ℕ, _+_, _-_, _≤_}
 use native.Mathlib.Omega.{arith}
-use Rattle.layout.specs.Numbers.{firstChunk, headerWords}
-use Rattle.layout.specs.Chunks.{Chunk, free, live}
+use Rattle.layout.specs.Numbers.{firstChunk, headerWords, need}
+use Rattle.layout.specs.Chunks.{Chunk}
 use Rattle.layout.specs.Walk.{chunksOf}
-use Rattle.layout.proofs.Holds.{Spaced}
+use Rattle.rules.specs.Rules.{freeChunks}
 use Rattle.rules.specs.Rooms.{roomWords}
-use Rattle.rules.specs.Crumbs.{hole, crumb, counted, freeSizes}
-use Rattle.rules.specs.Libraries.{Call, alloc, free as freeing, resize, relocate, realloc, ours}
+use Rattle.rules.specs.Crumbs.{crumb, counted, freeSizes}
+use Rattle.rules.specs.Libraries.{Call, alloc, free, resize, relocate, realloc, ours}
 use Rattle.rules.proofs.Searches.{BlockAt}
 use Rattle.rules.proofs.Crumbs.{crumbsOf, alloc-crumbs, resize-crumbs, realloc-stays-crumbs, free-crumbs, relocate-crumbs, realloc-crumbs}
 use Rattle.rules.proofs.Wholes.{alloc-whole, resize-whole, realloc-whole}
 use Rattle.ledger.specs.Events.{call}
 use Rattle.ledger.specs.Ledger.{Entry, Ledger, ends}
-use Rattle.ledger.specs.Gaps.{gapFrom, gaps}
+use Rattle.ledger.specs.Gaps.{gapFrom, gaps, hole, holes}
 use Rattle.ledger.specs.Runs.{State, Run, after, next}
 use Rattle.ledger.specs.Demands.{NoMoreCrumbs, StaysWithoutCrumb, OneCrumbMore, NeedOrGap, NeedOrRoom}
 use Rattle.ledger.proofs.Blocks.{Chunked}
-use Rattle.ledger.proofs.Agreeing.{Agrees, agrees-lawful, agrees-chunked, listed-chunked, chunked-block}
-use Rattle.ledger.proofs.Gaps.{gapsIn}
+use Rattle.ledger.proofs.Agreeing.{agrees-lawful, agrees-chunked, listed-chunked, chunked-block}
+use Rattle.ledger.proofs.Gaps.{gaps-counted, free-holes}
 use Rattle.ledger.proofs.WantOfRoom.{gaps-agree, block-whole, block-room}
 use Rattle.ledger.proofs.Runs.{run-agrees}
 
--- ---- what the gaps count is what the free chunks count, where a gap of 0 words counts nothing
+-- ---- what the gaps count in a run
 
--- no two free chunks stand in a row, so a gap is a free chunk, or has no words; `p` free words stand right before `ks`
-gaps-counted : (count : ℕ → ℕ) → count 0 ≡ 0 → (p : ℕ) (joined : Bool) (ks : List Chunk) → Spaced joined ks → (joined ≡ false → p ≡ 0)
-    → counted count (gapsIn p ks) ≡ count p + counted count (freeSizes ks)
-gaps-counted count nothing p joined [] h j = refl
-gaps-counted count nothing p joined (free s ∷ ks) h j =
-    let none : p ≡ 0 = j (h .0) in
-    let later = gaps-counted count nothing s true ks (h .1) (λ e. absurd (true≢false e)) in
-    rw none (ap (λ (q : ℕ). counted count (gapsIn q ks)) (omega arith) ∙ later ∙ omega (arith, nothing))
-gaps-counted count nothing p joined (live s ∷ ks) h j = omega (arith, nothing, gaps-counted count nothing 0 false ks h (λ e. refl))
-
-agrees-counted : (count : ℕ → ℕ) → count 0 ≡ 0 → (n : ℕ) (a : List ℕ) (ledger : Ledger) → Agrees n a ledger
-    → counted count (gaps n ledger) ≡ counted count (freeSizes (chunksOf a))
-agrees-counted count nothing n a ledger g =
-    rw (gaps-agree n a ledger g)
-    (gaps-counted count nothing 0 false (chunksOf a) (agrees-lawful n a ledger g .spaced) (λ e. refl) ∙ omega (arith, nothing))
-
--- in a run, and after one call more
 run-counted : (count : ℕ → ℕ) → count 0 ≡ 0 → {n : ℕ} {s : State} → Run ours n s
     → counted count (gaps n (s .ledger)) ≡ counted count (freeSizes (chunksOf (s .words)))
-run-counted count nothing run = agrees-counted count nothing _ _ _ (run-agrees run)
+run-counted count nothing {n} {s} run =
+    let g = run-agrees run in
+    rw (gaps-agree n (s .words) (s .ledger) g)
+    (gaps-counted count nothing 0 false (chunksOf (s .words)) (agrees-lawful n (s .words) (s .ledger) g .spaced) (λ e. refl)
+    ∙ omega (arith, nothing))
+
+-- the gaps that have words are the free chunks
+pub run-holes : {n : ℕ} {s : State} → Run ours n s → holes (gaps n (s .ledger)) ≡ freeChunks (chunksOf (s .words))
+run-holes {n} {s} run = run-counted hole refl run ∙ free-holes (chunksOf (s .words)) (agrees-lawful n (s .words) (s .ledger) (run-agrees run) .sizes)
 
 -- ---- crumbs
 
@@ -77,8 +68,8 @@ listed-crumbs calls few n s run e listed =
     rw (block-whole n (s .words) (s .ledger) g above e k)
     (by-arena run (calls (e .block)) (crumb (k .s)) (few (s .words) (e .block) (k .pre) (k .s) (k .post) (chunked-block k)))
 
-pub crumbs-after-free : OneCrumbMore ours freeing
-crumbs-after-free = listed-crumbs freeing free-crumbs
+pub crumbs-after-free : OneCrumbMore ours free
+crumbs-after-free = listed-crumbs free free-crumbs
 
 pub crumbs-after-relocate : (w : ℕ) → OneCrumbMore ours (λ b. relocate b w)
 crumbs-after-relocate w = listed-crumbs (λ b. relocate b w) (λ a b pre s post is. relocate-crumbs a b pre s post is w)
@@ -90,9 +81,7 @@ crumbs-after-realloc w = listed-crumbs (λ b. realloc b w) (λ a b pre s post is
 
 pub alloc-need-or-gap : NeedOrGap ours alloc
 alloc-need-or-gap n s run w done =
-    let before = run-counted hole refl run in
-    let after-it = run-counted hole refl (next run (call (alloc w)) tt) in
-    ⊎-elim inl (λ one. inr (omega (arith, one, before, after-it))) (alloc-whole (s .words) w done)
+    ⊎-elim inl (λ one. inr (omega (arith, one, run-holes run, run-holes (next run (call (alloc w)) tt)))) (alloc-whole (s .words) w done)
 
 -- a gap that begins so many words later has so many words less
 gap-later : (n c more : ℕ) (above : Ledger) → gapFrom n (c + more) above ≡ gapFrom n c above - more
@@ -103,22 +92,22 @@ module _ (n : ℕ) (s : State) (run : Run ours n s) (below above : Ledger) (e : 
   chunk : Chunked firstChunk (chunksOf (s .words)) e above
   chunk = agrees-chunked n (s .words) (s .ledger) (run-agrees run) below e above q
 
-  -- a block that has its whole room has no gap right above it
-  whole-room : (granted : ℕ) → headerWords + granted ≡ roomWords (chunk .s) (chunk .post) → gapFrom n (e .block + granted) above ≡ 0
-  whole-room granted all =
+  -- a block that has just its need, or its whole room, has just its need, or no gap right above it
+  or-room : (needed granted : ℕ) → (headerWords + granted ≡ needed) ⊎ (headerWords + granted ≡ roomWords (chunk .s) (chunk .post))
+      → (headerWords + granted ≡ needed) ⊎ (gapFrom n (e .block + granted) above ≡ 0)
+  or-room needed granted =
       let room = block-room n (s .words) (s .ledger) (run-agrees run) above e chunk in
       let gap = gapFrom n (ends e) above in
-      let end : e .block + granted ≡ ends e + gap = omega (arith, room, all) in
-      ap (λ (c : ℕ). gapFrom n c above) end ∙ gap-later n (ends e) gap above ∙ omega arith
+      ⊎-elim inl
+      (λ all. let end : e .block + granted ≡ ends e + gap = omega (arith, room, all) in
+      inr (ap (λ (c : ℕ). gapFrom n c above) end ∙ gap-later n (ends e) gap above ∙ omega arith))
 
 pub resize-need-or-room : NeedOrRoom ours resize
 resize-need-or-room n s run below above e q w done stays =
     let k = chunk n s run below above e q in
-    ⊎-elim inl (λ all. inr (whole-room n s run below above e q _ all))
-    (resize-whole (s .words) (e .block) (k .pre) (k .s) (k .post) (chunked-block k) w done)
+    or-room n s run below above e q (need w) _ (resize-whole (s .words) (e .block) (k .pre) (k .s) (k .post) (chunked-block k) w done)
 
 pub realloc-need-or-room : NeedOrRoom ours realloc
 realloc-need-or-room n s run below above e q w done stays =
     let k = chunk n s run below above e q in
-    ⊎-elim inl (λ all. inr (whole-room n s run below above e q _ all))
-    (realloc-whole (s .words) (e .block) (k .pre) (k .s) (k .post) (chunked-block k) w done stays)
+    or-room n s run below above e q (need w) _ (realloc-whole (s .words) (e .block) (k .pre) (k .s) (k .post) (chunked-block k) w done stays)

@@ -17,20 +17,22 @@ use Rattle.rules.specs.Answers.{Answer, Outcome, success}
 use Rattle.rules.specs.Pictures.{pictureOf, pictureLength, Says}
 use Rattle.rules.specs.Spots.{lowest}
 use Rattle.rules.specs.Rules.{joined, copied}
-use Rattle.rules.specs.Crumbs.{hole, crumb}
+use Rattle.rules.specs.Causes.{LawfulRequest}
+use Rattle.rules.specs.Crumbs.{crumb}
 use Rattle.rules.specs.Calls.{startOn, allocBy, freeOn, regrantBy, sizeOn, reportOn}
 use Rattle.rules.specs.Libraries.{Call, start, alloc, free, resize, relocate, realloc, size, view, report, write as writePicture, read}
 use Rattle.rules.specs.Libraries.{Library, ours}
-use Rattle.rules.proofs.Crumbs.{a-hole, a-crumb}
+use Rattle.rules.proofs.Crumbs.{a-crumb}
 use Rattle.rules.proofs.Pictures.{picture-length}
 use Rattle.rules.proofs.Saying.{said-says, picture-says}
 use Rattle.ledger.specs.Events.{call, store}
-use Rattle.ledger.specs.Gaps.{RoomShorter}
+use Rattle.ledger.specs.Gaps.{hole, RoomShorter}
 use Rattle.ledger.specs.Ledger.{Entry, enter, strike, told, Done, Held, begins, ends}
 use Rattle.ledger.specs.Runs.{State, Allowed, after, Run, begun, arrived, next}
 use Rattle.ledger.specs.Holders.{just, pictured, still}
 use Rattle.ledger.specs.Demands.{Starts, Receives, Lengths, Apart, Inside, Keeps, Lasts, Sums, RoomForAlloc, RoomForResize, RoomForRelocate}
-use Rattle.ledger.specs.Demands.{RoomForRealloc, ShrinksToNeed, NoMoreCrumbs, NeedOrGap, freeWordsIn, liveBlocksIn, Known}
+use Rattle.ledger.specs.Demands.{RoomForRealloc, ShrinksToNeed, NoMoreCrumbs, NeedOrGap, NeedOrRoom, freeWordsIn, liveBlocksIn, Known}
+use Rattle.ledger.proofs.Gaps.{a-hole}
 use Rattle.ledger.proofs.Examples.{clash}
 
 -- ---- what the room rule asks of a new arena: its first alloc is done
@@ -342,6 +344,25 @@ resize-moves library moves room known resizes =
     let done = a-resize library room known resizes in
     moves _ 2 _ done (known 6 _ (in-six library room .once) .resize-stays _ 2 done)
 
+-- the only block of an arena is resized, and stays
+record OnlyResized (library : Library) (n : ℕ) (words : List ℕ) (e : Entry) (w : ℕ) : Type 0 where
+  done : Done (library (resize (e .block) w) words .answer)
+  stays : told (library (resize (e .block) w) words .answer) .block ≡ e .block
+  run : Run library n
+      (record { words = library (resize (e .block) w) words .words; ledger = told (library (resize (e .block) w) words .answer) ∷ [] })
+
+only-resized : (library : Library) → Known library → RoomForResize library resize → (n : ℕ) (words : List ℕ) (e : Entry)
+    → Run library n (record { words = words; ledger = e ∷ [] }) → (w : ℕ) → LawfulRequest n w → (RoomShorter (need w) n e [] → ⊥)
+    → OnlyResized library n words e w
+unfolding enter strike
+only-resized library known resizes n words e only w lawful enough =
+    let done : Done (library (resize (e .block) w) words .answer) = resizes n _ only [] [] e refl w lawful .done .1 enough in
+    record {
+      done = done;
+      stays = known n _ only .resize-stays (e .block) w done;
+      run = rw (done, eq-eqb (e .block) (e .block) refl) at (next only (call (resize (e .block) w)) tt);
+    }
+
 -- a resize that is done grants just its need, and leaves all that is over
 abbrev pub ResizesToTheNeed : Library → Type 0
 ResizesToTheNeed library = (b w : ℕ) (a : List ℕ) → Done (library (resize b w) a .answer)
@@ -354,22 +375,42 @@ pub resizes-to-the-need : (library : Library) → ResizesToTheNeed library → R
 unfolding enter strike
 resizes-to-the-need library exact room inside known resizes none =
     let o = has-once library room (replicate 12 0) 8 refl (omega arith) in
-    let words = library (alloc 8) (library start (replicate 12 0) .words) .words in
     let e = told (library (alloc 8) (library start (replicate 12 0) .words) .answer) in
     let within : (2 ≤ begins e) × (ends e ≤ 12) = inside 12 _ (o .once) e (inl refl) in
     let enough = known 12 _ (o .started) .alloc-grants 8 (o .done) in
-    let answer = library (resize (e .block) 2) words .answer in
-    let done : Done answer = resizes 12 _ (o .once) [] [] e refl 2 (omega arith) .done .1 (λ short. omega (arith, short, enough)) in
-    let stays = known 12 _ (o .once) .resize-stays (e .block) 2 done in
-    let cut = exact (e .block) 2 words done in
     let at-four : e .block ≡ 4 = omega (arith, within, enough) in
-    let six : 12 - ends (told answer) ≡ 6 = omega (arith, stays, cut, at-four) in
-    let no-crumbs = rw (done, eq-eqb (e .block) (e .block) refl) at (none (e .block) 12 _ (o .once)) in
+    let r = only-resized library known resizes 12 _ e (o .once) 2 (omega arith) (λ short. omega (arith, short, enough)) in
+    let answer = library (resize (e .block) 2) (library (alloc 8) (library start (replicate 12 0) .words) .words) .answer in
+    let six : 12 - ends (told answer) ≡ 6 = omega (arith, r .stays, exact _ 2 _ (r .done), at-four) in
     let low : begins e - 2 ≡ 0 = omega (arith, at-four) in
     let high : 12 - ends e ≡ 0 = omega (arith, within, enough, at-four) in
     let before : crumb (begins e - 2) + (crumb (12 - ends e) + 0) ≡ 0 = rw (low, high) refl in
     let after-it : crumb (12 - ends (told answer)) ≡ 1 = rw six refl in
-    omega (arith, no-crumbs, before, after-it)
+    omega (arith, before, after-it, rw (r .done, eq-eqb (e .block) (e .block) refl) at (none (e .block) 12 _ (o .once)))
+
+-- a resize that is done grants six words beyond its need
+abbrev pub ResizesSixBeyond : Library → Type 0
+ResizesSixBeyond library = (b w : ℕ) (a : List ℕ) → Done (library (resize b w) a .answer)
+    → headerWords + told (library (resize b w) a .answer) .granted ≡ need w + 6
+
+-- if it keeps the room rules of alloc and resize and its blocks lie inside, it does not take the room whole: of 32
+-- words, the block is granted 8 for 2 and 10 for 4, and not both end where the arena ends
+pub resizes-six-beyond : (library : Library) → ResizesSixBeyond library → RoomForAlloc library alloc → Inside library → Known library
+    → RoomForResize library resize → NeedOrRoom library resize → ⊥
+resizes-six-beyond library beyond room inside known resizes whole =
+    let o = in-thirty-two library room in
+    let e = told (library (alloc 2) (library start (replicate 32 0) .words) .answer) in
+    let within : (2 ≤ begins e) × (ends e ≤ 32) = inside 32 _ (o .once) e (inl refl) in
+    let enough = known 32 _ (o .started) .alloc-grants 2 (o .done) in
+    let two = only-resized library known resizes 32 _ e (o .once) 2 (omega arith) (λ short. omega (arith, short, enough)) in
+    let eight = beyond _ 2 _ (two .done) in
+    let low = inside 32 _ (two .run) _ (inl refl) .1 in
+    let four = only-resized library known resizes 32 _ e (o .once) 4 (omega arith)
+    (λ short. omega (arith, short, within, low, two .stays, eight)) in
+    let ten = beyond _ 4 _ (four .done) in
+    let high = inside 32 _ (four .run) _ (inl refl) .1 in
+    ⊎-elim (λ just-need. omega (arith, just-need, eight)) (λ at-end. omega (arith, at-end, eight, ten, high, four .stays))
+    (whole 32 _ (o .once) [] [] e refl 2 (two .done) (two .stays))
 
 -- each call is ours, but resize is another
 abbrev withResize : (ℕ → ℕ → List ℕ → Outcome) → Library

@@ -83,7 +83,8 @@ module _ (n : ℕ) (a : List ℕ) (ledger : Ledger) (agrees : Agrees n a ledger)
       let k = agrees-chunked n a ledger agrees below e above q in
       let is = chunked-block k in
       let own : ShortBlock a (e .block) (need w) ↔ Short (k .s) (k .post) (need w) = (
-        λ (pre, s, post, is′, short). let same = one-block a (e .block) (k .pre) pre (k .s) s (k .post) post (agrees .is-sound) is is′ in rw (same .0, same .1) at short,
+        λ (pre, s, post, is′, short). let same = one-block a (e .block) (k .pre) pre (k .s) s (k .post) post (agrees .is-sound) is is′ in
+            rw (same .0, same .1) at short,
         λ short. (k .pre, k .s, k .post, is, short),
       ) in
       rw (block-room above e k) (Iff·trans own (short-room (k .s) (k .post) (need w)))

@@ -13,13 +13,13 @@ use Rattle.layout.specs.declared.Reason.the-variants.{Length, Damaged, NotABloc
 use Rattle.layout.specs.Walk.{sound}
 use Rattle.rules.specs.Answers.{Answer, success}
 use Rattle.rules.specs.Causes.{LawfulRequest}
-use Rattle.rules.specs.Crumbs.{crumb, holes, crumbs}
+use Rattle.rules.specs.Crumbs.{crumb, crumbs}
 use Rattle.rules.specs.Pictures.{pictureLength, Says}
 use Rattle.rules.specs.declared.Request.{Request}
 use Rattle.rules.specs.Libraries.{Call, start, alloc, free, resize, relocate, realloc, size, view, report, write, read, Library}
 use Rattle.ledger.specs.Events.{Event, call}
 use Rattle.ledger.specs.Ledger.{Entry, Ledger, told, Done, Listed, Unlisted, begins, ends, heldWords}
-use Rattle.ledger.specs.Gaps.{gapFrom, gaps, EachShorter, RoomShorter}
+use Rattle.ledger.specs.Gaps.{gapFrom, gaps, EachShorter, holes, RoomShorter}
 use Rattle.ledger.specs.Runs.{State, Allowed, after, Run}
 use Rattle.ledger.specs.BatchRuns.{afterBatch, afterSingly}
 use Rattle.ledger.specs.Holders.{wordAfter, numberAfter, Ended, StoredLast}

@@ -19,7 +19,7 @@ use Rattle.rules.specs.Answers.{Outcome, blockField}
 use Rattle.rules.specs.Spots.{held}
 use Rattle.rules.specs.Rules.{cut, trim, join, joined, released, copied}
 use Rattle.rules.specs.Rooms.{roomWords, roomAfter}
-use Rattle.rules.specs.Crumbs.{hole, crumb, counted, crumbs, freeSizes}
+use Rattle.rules.specs.Crumbs.{crumb, crumbs, freeSizes}
 use Rattle.rules.specs.Calls.{allocOn, freeOn, resizeOn, relocateOn, reallocOn}
 use Rattle.rules.specs.Causes.{ReallocRefused}
 use Rattle.rules.proofs.Remainder.{Remainder, split, whole, remainder}
@@ -29,14 +29,12 @@ use Rattle.rules.proofs.Searches.{BlockAt, one-block}
 use Rattle.rules.proofs.OldBlock.{StillThere, still-there}
 use Rattle.rules.proofs.Gates.{request-needed}
 use Rattle.rules.proofs.CallCases.{Case, refuses, does, Allots, allots, Frees, frees, alloc-case, free-case}
-use Rattle.rules.proofs.RegrantCases.{Resizes, resizes, Relocates, moves, Regrants, in-place, elsewhere, resize-case, relocate-case, realloc-case}
+use Rattle.rules.proofs.RegrantCases.{Resizes, resizes, Relocates, moves, Regrants, in-place, elsewhere}
+use Rattle.rules.proofs.RegrantCases.{resize-case, relocate-case, realloc-case}
 use Rattle.rules.proofs.Keeping.{freed-lawful, allots-lawful, resizes-lawful}
 use Rattle.rules.proofs.BlockNumbers.{relocated-elsewhere}
 
 -- ---- one stretch of free words
-
-pub a-hole : (words : ℕ) → 0 < words → hole words ≡ 1
-a-hole words some = rw (lt-ltb 0 words some)
 
 crumb-most : (words : ℕ) → crumb words ≤ 1
 crumb-most words = go (ltb 0 words && ltb words leastSplit)
@@ -75,11 +73,10 @@ crumb-joined (suc s) t = omega (arith, crumb-longer (suc s) (suc s + t) (omega a
 abbrev crumbsIn : List Chunk → ℕ
 crumbsIn ks = crumbs (freeSizes ks)
 
-pub counted-append : (count : ℕ → ℕ) (ks ls : List Chunk)
-    → counted count (freeSizes (ks ++ ls)) ≡ counted count (freeSizes ks) + counted count (freeSizes ls)
-counted-append count [] ls = omega arith
-counted-append count (free s ∷ ks) ls = omega (arith, counted-append count ks ls)
-counted-append count (live s ∷ ks) ls = counted-append count ks ls
+crumbs-append : (ks ls : List Chunk) → crumbsIn (ks ++ ls) ≡ crumbsIn ks + crumbsIn ls
+crumbs-append [] ls = omega arith
+crumbs-append (free s ∷ ks) ls = omega (arith, crumbs-append ks ls)
+crumbs-append (live s ∷ ks) ls = crumbs-append ks ls
 
 -- chunks in the middle are replaced by others
 crumbs-replaced : (pre old new post : List Chunk) (more : ℕ) → crumbsIn new ≤ more + crumbsIn old
@@ -88,10 +85,10 @@ crumbs-replaced pre old new post more few =
     omega (
       arith,
       few,
-      counted-append crumb pre (new ++ post),
-      counted-append crumb new post,
-      counted-append crumb pre (old ++ post),
-      counted-append crumb old post,
+      crumbs-append pre (new ++ post),
+      crumbs-append new post,
+      crumbs-append pre (old ++ post),
+      crumbs-append old post,
     )
 
 -- a need is taken from a free chunk: what stays free of it is no crumb

@@ -1,20 +1,19 @@
 -- Where more than the need is granted, all that is there is granted: a free chunk as a whole, or the whole room of a
 -- block that stays.
-use mathlib.Core.Path.{_≡_}
+use mathlib.Core.Path.{_≡_, refl}
 use mathlib.Core.Logic.{_⊎_, inl, inr}
 use mathlib.Core.Bool.{Bool, cond}
 use mathlib.Core.List.{List, [], _∷_, _++_}
-use Prim.Native.Nat.{ℕ, _+_, _-_, _≤_, _<_}
+use Prim.Native.Nat.{ℕ, _+_, _-_, _≤_}
 use native.Mathlib.Omega.{arith}
 use Rattle.layout.specs.Numbers.{headerWords, need}
 use Rattle.layout.specs.Chunks.{Chunk, free, live}
 use Rattle.layout.specs.Walk.{chunksOf}
-use Rattle.layout.proofs.Holds.{sizes-split}
-use Rattle.layout.proofs.Round.{sound-chunks, written-sound}
+use Rattle.layout.proofs.Round.{written-sound}
 use Rattle.rules.specs.Answers.{blockField, grantedField}
+use Rattle.rules.specs.Rules.{freeChunks}
 use Rattle.rules.specs.Calls.{allocOn, resizeOn, reallocOn}
 use Rattle.rules.specs.Rooms.{roomWords}
-use Rattle.rules.specs.Crumbs.{hole, holes, freeSizes}
 use Rattle.rules.proofs.Remainder.{Remainder, split, whole, remainder}
 use Rattle.rules.proofs.Searches.{BlockAt, one-block}
 use Rattle.rules.proofs.Staying.{KeepsOfRoom, splits-rest, hands-over, its-room}
@@ -22,19 +21,19 @@ use Rattle.rules.proofs.CallCases.{done-does, Allots, allots, alloc-cas
 use Rattle.rules.proofs.RegrantCases.{Resizes, resizes, Regrants, in-place, elsewhere, resize-case, realloc-case}
 use Rattle.rules.proofs.Keeping.{allots-lawful}
 use Rattle.rules.proofs.BlockNumbers.{relocated-elsewhere}
-use Rattle.rules.proofs.Crumbs.{a-hole, counted-append}
 
--- how many free chunks an arena has
-abbrev pub holesOf : List ℕ → ℕ
-holesOf a = holes (freeSizes (chunksOf a))
+-- a free chunk becomes live as a whole
+one-less : (pre : List Chunk) (s : ℕ) (post : List Chunk) → 1 + freeChunks (pre ++ live s ∷ post) ≡ freeChunks (pre ++ free s ∷ post)
+one-less [] s post = refl
+one-less (free t ∷ pre) s post = omega (arith, one-less pre s post)
+one-less (live t ∷ pre) s post = one-less pre s post
 
--- a need is taken from a free chunk: the chunk stays, shorter, or there is one free chunk less
-cut-whole : (need : ℕ) (pre : List Chunk) (s : ℕ) (post : List Chunk) → headerWords ≤ need → 0 < s → {over : Bool} → Remainder need s over
+-- a need is taken from a free chunk: just the need, or there is one free chunk less
+cut-whole : (need : ℕ) (pre : List Chunk) (s : ℕ) (post : List Chunk) → headerWords ≤ need → {over : Bool} → Remainder need s over
     → (headerWords + (cond over need s - headerWords) ≡ need)
-    ⊎ (1 + holes (freeSizes (pre ++ (cond over (free (s - need) ∷ live need ∷ []) (live s ∷ []) ++ post))) ≡ holes (freeSizes (pre ++ free s ∷ post)))
-cut-whole need pre s post least some (split o) = inl (omega arith)
-cut-whole need pre s post least some (whole l few) =
-    inr (omega (arith, a-hole s some, counted-append hole pre (live s ∷ post), counted-append hole pre (free s ∷ post)))
+    ⊎ (1 + freeChunks (pre ++ (cond over (free (s - need) ∷ live need ∷ []) (live s ∷ []) ++ post)) ≡ freeChunks (pre ++ free s ∷ post))
+cut-whole need pre s post least (split o) = inl (omega arith)
+cut-whole need pre s post least (whole l few) = inr (one-less pre s post)
 
 -- a block that stays keeps just its need, or its whole room
 keeps-whole : (need s keep : ℕ) (post : List Chunk) → headerWords ≤ need → KeepsOfRoom need s post keep
@@ -45,14 +44,14 @@ keeps-whole need s keep post least (its-room enough few) = inr (omega arith)
 
 module _ (a : List ℕ) where
   allots-whole : (n : ℕ) (values after : List ℕ) → Allots a n values after
-      → (headerWords + grantedField values ≡ need n) ⊎ (1 + holesOf after ≡ holesOf a)
+      → (headerWords + grantedField values ≡ need n) ⊎ (1 + freeChunks (chunksOf after) ≡ freeChunks (chunksOf a))
   allots-whole n values after (allots e r pre s post gap) =
-      let size = sizes-split pre (free s ∷ post) (rw (gap .0) at (sound-chunks a e .law .sizes)) .1 .1 in
       rw (written-sound _ a (allots-lawful a e n r pre s post gap) .1, gap .0)
-      (cut-whole (need n) pre s post (omega arith) (omega (arith, size)) (remainder (need n) s (gap .1)))
+      (cut-whole (need n) pre s post (omega arith) (remainder (need n) s (gap .1)))
 
   pub alloc-whole : (n : ℕ) → allocOn a n .answer .code ≡ 0
-      → (headerWords + grantedField (allocOn a n .answer .values) ≡ need n) ⊎ (1 + holesOf (allocOn a n .words) ≡ holesOf a)
+      → (headerWords + grantedField (allocOn a n .answer .values) ≡ need n)
+      ⊎ (1 + freeChunks (chunksOf (allocOn a n .words)) ≡ freeChunks (chunksOf a))
   alloc-whole n done = allots-whole n _ _ (done-does (alloc-case a n) done)
 
   module _ (b : ℕ) (pre : List Chunk) (s : ℕ) (post : List Chunk) (is : BlockAt a b pre s post) (n : ℕ) where
