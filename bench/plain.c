@@ -78,6 +78,41 @@ static inline uint32_t first_fit(const uint32_t *arena, size_t need, struct plac
     return gap == 0 ? ZV_NO_ROOM : ZV_DONE;
 }
 
+/* Finds the smallest gap of at least so many words, the lowest of equals; a gap of just so many ends the search. */
+static inline uint32_t best_fit(const uint32_t *arena, size_t need, struct place *place)
+{
+    struct place best = {LIST_WORD, 0};
+    size_t least = ZV_GREATEST_WORDS;
+    size_t link = LIST_WORD;
+    size_t gap;
+
+    for (gap = arena[link]; gap != 0 && least != need; gap = arena[link]) {
+        if (arena[gap] >= need && arena[gap] < least) {
+            least = arena[gap];
+            best = (struct place){link, gap};
+        }
+        link = gap + 1;
+    }
+    *place = best;
+    return best.chunk == 0 ? ZV_NO_ROOM : ZV_DONE;
+}
+
+/* Finds the lowest gap of at least so many words that starts at the rover or above, or else the lowest of all these. */
+static inline uint32_t next_fit(const uint32_t *arena, size_t need, uint32_t rover, struct place *place)
+{
+    struct place lowest = {LIST_WORD, 0};
+    size_t link = LIST_WORD;
+    size_t gap;
+
+    for (gap = arena[link]; gap != 0 && (gap < rover || arena[gap] < need); gap = arena[link]) {
+        if (lowest.chunk == 0 && arena[gap] >= need)
+            lowest = (struct place){link, gap};
+        link = gap + 1;
+    }
+    *place = gap == 0 ? lowest : (struct place){link, gap};
+    return place->chunk == 0 ? ZV_NO_ROOM : ZV_DONE;
+}
+
 static uint32_t grant(uint32_t answer[2], size_t chunk, size_t size)
 {
     answer[ZV_BLOCK] = (uint32_t)(chunk + HEADER);
@@ -206,20 +241,55 @@ uint32_t plain_start(uint32_t *arena, size_t words)
     return ZV_DONE;
 }
 
-uint32_t plain_alloc(uint32_t *arena, size_t words, uint32_t n, uint32_t answer[2])
+/* The checks of a call for a new block, in the order of their reasons. */
+static inline uint32_t check_new(const uint32_t *arena, size_t words, uint32_t n)
 {
     uint32_t code = check_arena(arena, words);
-    struct place gap;
+
+    return code == ZV_DONE ? check_request(words, n) : code;
+}
+
+/* Grants a new block in the gap that was found, or refuses it with the code. */
+static inline uint32_t settle(uint32_t *arena, uint32_t n, uint32_t code, struct place gap, uint32_t answer[2])
+{
     size_t chunk;
 
-    if (code == ZV_DONE)
-        code = check_request(words, n);
-    if (code == ZV_DONE)
-        code = first_fit(arena, need_of(n), &gap);
     if (code != ZV_DONE)
         return refuse(answer, code);
     chunk = take(arena, gap, need_of(n));
     return grant(answer, chunk, arena[chunk]);
+}
+
+uint32_t plain_alloc(uint32_t *arena, size_t words, uint32_t n, uint32_t answer[2])
+{
+    uint32_t code = check_new(arena, words, n);
+    struct place gap = {0, 0};
+
+    if (code == ZV_DONE)
+        code = first_fit(arena, need_of(n), &gap);
+    return settle(arena, n, code, gap, answer);
+}
+
+uint32_t plain_alloc_best(uint32_t *arena, size_t words, uint32_t n, uint32_t answer[2])
+{
+    uint32_t code = check_new(arena, words, n);
+    struct place gap = {0, 0};
+
+    if (code == ZV_DONE)
+        code = best_fit(arena, need_of(n), &gap);
+    return settle(arena, n, code, gap, answer);
+}
+
+uint32_t plain_alloc_next(uint32_t *arena, size_t words, struct zv_rover *rover, uint32_t n, uint32_t answer[2])
+{
+    uint32_t code = check_new(arena, words, n);
+    struct place gap = {0, 0};
+
+    if (code == ZV_DONE)
+        code = next_fit(arena, need_of(n), rover->at, &gap);
+    if (code == ZV_DONE)
+        rover->at = (uint32_t)gap.chunk;
+    return settle(arena, n, code, gap, answer);
 }
 
 uint32_t plain_free(uint32_t *arena, size_t words, uint32_t b)

@@ -11,6 +11,8 @@
 
 uint32_t plain_start(uint32_t *arena, size_t words);
 uint32_t plain_alloc(uint32_t *arena, size_t words, uint32_t n, uint32_t answer[2]);
+uint32_t plain_alloc_best(uint32_t *arena, size_t words, uint32_t n, uint32_t answer[2]);
+uint32_t plain_alloc_next(uint32_t *arena, size_t words, struct zv_rover *rover, uint32_t n, uint32_t answer[2]);
 uint32_t plain_free(uint32_t *arena, size_t words, uint32_t b);
 uint32_t plain_resize(uint32_t *arena, size_t words, uint32_t b, uint32_t n, uint32_t answer[2]);
 uint32_t plain_relocate(uint32_t *arena, size_t words, uint32_t b, uint32_t n, uint32_t answer[2]);

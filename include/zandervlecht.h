@@ -6,27 +6,35 @@
  * costs in time and in stack is on the page docs/COST.md.
  *
  * What a call does. It is done exactly as the rules say, and returns ZV_DONE; or it returns the reason why it says no,
- * and then not one word of the arena and not one byte of the text has changed, and every field of the answer is 0. A
- * call takes any number, an arena of any length that holds any words, damaged ones included, a text of any length that
- * holds any bytes, and a list of any length that holds any records. zv_batch is as many calls as its list has records,
- * and returns nothing: each record has the code and the fields of its own answer.
+ * and then not one word of the arena and not one byte of the text has changed, the rover is where it was, and every
+ * field of the answer is 0. A call takes any number, in a rover too, an arena of any length that holds any words,
+ * damaged ones included, a text of any length that holds any bytes, and a list of any length that holds any records.
+ * zv_batch is as many calls as its list has records, and returns nothing: each record has the code and the fields of
+ * its own answer.
  *
  * What the caller must see to, since a C function cannot:
  *   - arena points to that many words, aligned as uint32_t is, and is no null pointer, even where words is 0;
  *   - text and spelled point to that many bytes, and are no null pointers, even where bytes is 0;
  *   - requests points to that many records, aligned as uint32_t is, and is no null pointer, even where count is 0;
+ *   - rover points to one struct zv_rover, aligned as uint32_t is, and is no null pointer;
  *   - answer points to as many words as the brackets say;
- *   - arena, text, requests and answer share no memory;
+ *   - arena, text, requests, rover and answer share no memory;
  *   - nobody else reads or writes what they point to during the call.
  *
- * Who owns what. Arena, text, requests and answer are the caller's. The library keeps nothing from one call to the next
- * and has no memory of its own: all that it knows is in the arena. So there can be several arenas, and one that was
- * copied as a whole, or read from its picture, is as good as the first.
+ * Who owns what. Arena, text, requests, rover and answer are the caller's. The library keeps nothing from one call to
+ * the next and has no memory of its own: all that it knows is in the arena and, for zv_alloc_next, in the rover. So
+ * there can be several arenas, and one that was copied as a whole, or read from its picture, is as good as the first.
  *
  * A block is named by a number: the word of the arena at which it begins. Its words are arena + block up to, but not
  * with, arena + block + granted, where granted is what zv_size answers; they belong to whoever asked for the block,
  * from the grant until it is freed or granted anew, or zv_start or zv_read make the whole arena anew. All other words
  * of the arena are the library's: to store there damages the arena, and every call on it but these two then says so.
+ *
+ * Three fits. A new block is cut from a free chunk that is long enough; the fit says which one, where there are more:
+ * with zv_alloc it is the lowest of them (first fit), with zv_alloc_best the smallest (best fit), with zv_alloc_next
+ * the one that comes first from the rover on (next fit). In all else the three are one call: on the same arena they say
+ * no to the same requests, and they cut and answer alike. What zv_relocate, zv_realloc and zv_batch grant is of the
+ * first fit. The page docs/FITS.md shows the three side by side.
  *
  * A picture is an arena as text, in lines of hexadecimal digits, each ended by LF; docs/BOARD.md shows one. The first
  * line has the number of words, and each other line eight of them, the last what is left. A line takes seven bytes and,
@@ -73,7 +81,7 @@ enum zv_code {
     ZV_TEXT_ROOM = 11
 };
 
-/* The fields of the answer of zv_alloc, zv_resize, zv_relocate and zv_realloc. */
+/* The fields of the answer of zv_alloc, zv_alloc_best, zv_alloc_next, zv_resize, zv_relocate and zv_realloc. */
 enum zv_granted {
     /* The block's number. */
     ZV_BLOCK = 0,
@@ -128,11 +136,31 @@ struct zv_request {
     uint32_t granted;
 };
 
+/*
+ * Where zv_alloc_next begins to search. A new one is 0. It is no block, so there is nothing to free; and no other call
+ * looks at it. Any number will do, one that is no chunk's or lies outside the arena too: it only says which chunk is
+ * found, never whether. As a rule each arena has a rover of its own, but that is the caller's business.
+ */
+struct zv_rover {
+    /* The word from which on the search begins: where the free chunk started that the last granted call found. */
+    uint32_t at;
+};
+
 /* Makes the whole arena one free chunk, whatever words it held. Returns ZV_DONE or ZV_LENGTH. */
 uint32_t zv_start(uint32_t *arena, size_t words);
 
-/* Grants a block of at least n words. What lay there before is still there. */
+/* Grants a block of at least n words, from the lowest free chunk that is long enough. What lay there is still there. */
 uint32_t zv_alloc(uint32_t *arena, size_t words, uint32_t n, uint32_t answer[2]);
+
+/* Does as zv_alloc does, but takes the smallest free chunk that is long enough, and of equals the lowest. */
+uint32_t zv_alloc_best(uint32_t *arena, size_t words, uint32_t n, uint32_t answer[2]);
+
+/*
+ * Does as zv_alloc does, but takes the lowest free chunk that is long enough and starts at the rover's word or above it
+ * or, if there is none, the lowest that is long enough. A call that is granted moves the rover to the word where that
+ * chunk started, whichever of its words are granted; a call that is refused leaves it.
+ */
+uint32_t zv_alloc_next(uint32_t *arena, size_t words, struct zv_rover *rover, uint32_t n, uint32_t answer[2]);
 
 /* Frees block b. */
 uint32_t zv_free(uint32_t *arena, size_t words, uint32_t b);

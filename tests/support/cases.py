@@ -1,7 +1,8 @@
 """Cases for the program `cases`: how one is written, and what the model replies to it.
 
 A case is one call on one arena: the words call, b, n, length, then the arena. The reply is the code, four
-fields, the length of the part that a view handed back, that part, and the arena after the call.
+fields, the length of the part that a view handed back, that part, and the arena after the call. For next fit b is the
+rover, and the third field is the rover after the call, which is told of a refused call as well.
 """
 
 import struct
@@ -10,8 +11,9 @@ from collections import namedtuple
 from . import model
 from .telling import differences
 
-START, ALLOC, FREE, REALLOC, REPORT, SIZE, VIEW, VIEW_MUT, RESIZE, RELOCATE = range(1, 11)
-NAMES = ["?", "start", "alloc", "free", "realloc", "report", "size", "view", "view_mut", "resize", "relocate"]
+START, ALLOC, FREE, REALLOC, REPORT, SIZE, VIEW, VIEW_MUT, RESIZE, RELOCATE, ALLOC_BEST, ALLOC_NEXT = range(1, 13)
+NAMES = ["?", "start", "alloc", "free", "realloc", "report", "size", "view", "view_mut", "resize", "relocate",
+         "alloc_best", "alloc_next"]
 LONGEST_CASE = 16400
 FIELDS = 4
 
@@ -21,6 +23,12 @@ TOGETHER = (RESIZE, RELOCATE, REALLOC)
 
 # The codes that the three can have then.
 CODES_TOGETHER = [(code, code, code) for code in range(6)] + [(0, 6, 0), (8, 0, 0), (8, 6, 6)]
+
+# Three others: the fits, which refuse in the same cases. The rover is that of the last; the others do not look at b.
+FITS = (ALLOC, ALLOC_BEST, ALLOC_NEXT)
+
+# The codes that the fits can have.
+CODES_OF_FITS = [(code, code, code) for code in (0, 1, 2, 4, 5, 6)]
 
 Case = namedtuple("Case", "call block asked words")
 
@@ -35,6 +43,8 @@ CALLS = {
     VIEW_MUT: lambda case: overwritten(case),
     RESIZE: lambda case: model.on_words(model.resize, case.words, case.block, case.asked),
     RELOCATE: lambda case: model.on_words(model.relocate, case.words, case.block, case.asked),
+    ALLOC_BEST: lambda case: model.on_words(model.alloc_best, case.words, case.asked),
+    ALLOC_NEXT: lambda case: model.on_words(model.alloc_next, case.words, case.block, case.asked),
 }
 
 
@@ -58,12 +68,13 @@ def answer_to(case):
     return CALLS[case.call](case)
 
 
-def asked_together(asked):
-    """Where among these cases the three calls above are asked together."""
+def asked_together(asked, calls):
+    """Where among these cases three calls are asked together."""
     for at in range(len(asked) - 2):
-        three = asked[at:at + 3]
-        if tuple(case.call for case in three) == TOGETHER and three[0][1:] == three[1][1:] == three[2][1:]:
-            yield at
+        if asked[at].call == calls[0]:
+            three = asked[at:at + 3]
+            if tuple(case.call for case in three) == calls and three[0][1:] == three[1][1:] == three[2][1:]:
+                yield at
 
 
 def packed(words):

@@ -1,4 +1,4 @@
-"""The rules for one arena, document 01's with Items 1, 3, 5 and 6 of document 02: answers, and every word left.
+"""The rules for one arena, document 01's with Items 1, 3 and 5 to 7 of document 02: answers, and every word left.
 
 The model shares nothing with the library. It reads an arena as the stretches of words that are live; what lies
 between them is free. A rule looks at these stretches and says what is answered and which of them change; around each
@@ -189,6 +189,25 @@ def block_and_grant(start, size):
     return start + HEADER, size - HEADER
 
 
+# The fits. Each gives the gaps in the order in which it tries them; the first that fits is taken.
+
+
+def first_fit(gaps):
+    """The lowest first."""
+    return gaps
+
+
+def best_fit(gaps):
+    """The smallest first, of equals the lowest."""
+    return sorted(gaps, key=lambda chunk: (chunk[1], chunk[0]))
+
+
+def next_fit(gaps, rover):
+    """Once round, from the lowest that starts at or above the rover."""
+    turn = bisect.bisect_left(gaps, (rover, 0))
+    return gaps[turn:] + gaps[:turn]
+
+
 # The rules. Each gives the numbers that are answered and the changes to be made, or refuses; it changes nothing itself.
 
 
@@ -198,16 +217,37 @@ def start_rule(lent):
     return (), [(Lent.begin,)]
 
 
-def alloc_rule(lent, asked):
-    """The last words of the lowest gap that fits become a live chunk, or all its words do."""
+def grant_from(lent, asked, fit, *numbers):
+    """The last words of the gap that this fit finds become a live chunk, or all its words do; the gap's start besides.
+
+    A fit may take numbers besides the gaps.
+    """
     live, gaps = lent.chunks()
     need = need_of(asked, len(lent.words))
-    for gap, room in gaps:
+    for gap, room in fit(gaps, *numbers):
         if room >= need:
             size = taken_from(room, need)
             start = gap + room - size
-            return block_and_grant(start, size), [(Lent.become, start, size)]
+            return block_and_grant(start, size), [(Lent.become, start, size)], gap
     raise Refused(NO_ROOM)
+
+
+def alloc_rule(lent, asked):
+    """A new block by first fit."""
+    grant, changes, gap = grant_from(lent, asked, first_fit)
+    return grant, changes
+
+
+def alloc_best_rule(lent, asked):
+    """A new block by best fit."""
+    grant, changes, gap = grant_from(lent, asked, best_fit)
+    return grant, changes
+
+
+def alloc_next_rule(lent, rover, asked):
+    """A new block by next fit, and the rover: it is where the gap started of which the block was taken."""
+    grant, changes, gap = grant_from(lent, asked, next_fit, rover)
+    return (*grant, gap), changes
 
 
 def free_rule(lent, block):
@@ -284,6 +324,16 @@ def start(lent):
 
 def alloc(lent, asked):
     return lent.answer(alloc_rule, 2, asked)
+
+
+def alloc_best(lent, asked):
+    return lent.answer(alloc_best_rule, 2, asked)
+
+
+def alloc_next(lent, rover, asked):
+    """The third number is the rover after the call: a refused one leaves it where it was."""
+    code, (block, granted, found) = lent.answer(alloc_next_rule, 3, rover, asked)
+    return code, (block, granted, found if code == DONE else rover)
 
 
 def free(lent, block):

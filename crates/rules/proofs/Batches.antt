@@ -14,13 +14,15 @@ use Rattle.layout.specs.declared.Reason.the-variants.{Frame}
 use Rattle.layout.proofs.Reasons.{number-positive, number-injective}
 use Rattle.rules.specs.Answers.{Outcome, blockField, grantedField, noCall}
 use Rattle.rules.specs.Behaves.{Behaves}
-use Rattle.rules.specs.Libraries.{Call, start, alloc, free, resize, relocate, realloc, size, view, report, write, read, Library, ours}
+use Rattle.rules.specs.Fits.{first-fit, Policies, policyOf, AllFitting}
+use Rattle.rules.specs.Libraries.{Call, start, alloc, free, resize, relocate, realloc, size, view, report, write, read, Library, libraryBy, ours}
 use Rattle.rules.specs.Causes.{CallRefused, callFields, WantedRefused, wantedFields}
 use Rattle.rules.specs.Batches.{Wanted, aCall, unknown, wanted, madeSingly, served, wantedIn, filled, Batch, batchBy, batchOn}
 use Rattle.rules.specs.Batches.{Serves, Fills}
 use Rattle.rules.specs.declared.Request.{Request}
 use Rattle.rules.specs.declared.Served.{Served}
-use Rattle.rules.proofs.Calls.{start-behaves, alloc-behaves, free-behaves, resize-behaves, relocate-behaves, realloc-behaves, size-behaves}
+use Rattle.rules.proofs.Fits.{all-fitting}
+use Rattle.rules.proofs.Calls.{start-behaves, alloc-by-behaves, alloc-behaves, free-behaves, resize-behaves, relocate-behaves, realloc-behaves, size-behaves}
 use Rattle.rules.proofs.Calls.{report-behaves, write-behaves, read-behaves}
 
 -- ---- one request
@@ -85,10 +87,10 @@ module _ (library : Library) where
   batch-asks a [] = refl
   batch-asks a (r ∷ rs) = ap (λ (l : List (ℕ × ℕ × ℕ)). asking r ∷ l) (batch-asks (madeSingly library (wantedIn r) a .words) rs)
 
--- ---- our calls
+-- ---- our calls, under any policies that are fitting
 
-module _ (a : List ℕ) where
-  view-behaves : (b : ℕ) → Behaves 0 a (λ why. ⊥) (ours (view b) a)
+module _ (policies : Policies) (fitting : AllFitting policies) (a : List ℕ) where
+  view-behaves : (b : ℕ) → Behaves 0 a (λ why. ⊥) (libraryBy policies (view b) a)
   view-behaves b =
       record {
         refused = λ why. (λ e. absurd (omega (arith, number-positive why)), absurd);
@@ -111,9 +113,9 @@ module _ (a : List ℕ) where
       }
 
   -- every call behaves
-  pub call-behaves : (c : Call) → Behaves (callFields c) a (CallRefused c a) (ours c a)
+  pub call-behaves : (c : Call) → Behaves (callFields c) a (CallRefused c a) (libraryBy policies c a)
   call-behaves start = start-behaves a
-  call-behaves (alloc w) = alloc-behaves a w
+  call-behaves (alloc fit w) = alloc-by-behaves a (policies fit) (fitting fit) w
   call-behaves (free b) = free-behaves a b
   call-behaves (resize b w) = resize-behaves a b w
   call-behaves (relocate b w) = relocate-behaves a b w
@@ -125,13 +127,13 @@ module _ (a : List ℕ) where
   call-behaves (read text) = read-behaves a text
 
   -- a request behaves as its call does; one of an unknown kind is refused with Frame, whatever the words are
-  pub wanted-behaves : (w : Wanted) → Behaves (wantedFields w) a (WantedRefused w a) (madeSingly ours w a)
+  pub wanted-behaves : (w : Wanted) → Behaves (wantedFields w) a (WantedRefused w a) (madeSingly (libraryBy policies) w a)
   wanted-behaves (aCall c) = call-behaves c
   wanted-behaves unknown = unknown-behaves
 
   -- what a refused request leaves: the words as they were, and 0 in the record for block and granted words
   pub refused-request : (w : Wanted)
-      → let outcome = madeSingly ours w a in
+      → let outcome = madeSingly (libraryBy policies) w a in
       outcome .answer .code ≢ 0 → (outcome .words ≡ a) × (served (outcome .answer) .block ≡ 0) × (served (outcome .answer) .granted ≡ 0)
   refused-request w n =
       let g = wanted-behaves w in
@@ -154,7 +156,7 @@ only-unknown kind b n a = go (eqb kind 1) (eqb kind 2) (eqb kind 3) (eqb kind 4)
   where
     go : (alloc? free? realloc? resize? relocate? size? : Bool)
         → let w =
-        cond alloc? (aCall (alloc n))
+        cond alloc? (aCall (alloc first-fit n))
         (cond free? (aCall (free b))
         (cond realloc? (aCall (realloc b n))
         (cond resize? (aCall (resize b n)) (cond relocate? (aCall (relocate b n)) (cond size? (aCall (size b)) unknown)))))
@@ -176,7 +178,7 @@ pub refused-record : (a : List ℕ) (r : Request) (rs : List Request)
     code ≢ 0
     → batchOn a (r ∷ rs) ≡ record { records = filled r (record { code = code; block = 0; granted = 0 }) ∷ rest .records; words = rest .words }
 refused-record a r rs n =
-    let left = refused-request a (wantedIn r) n in
+    let left = refused-request policyOf all-fitting a (wantedIn r) n in
     batch-more ours a r rs ∙ rw (left .0, left .1, left .2) refl
 
 -- a batch keeps the number of words, and a sound arena sound
@@ -185,9 +187,9 @@ batch-length a [] = ap (λ (batch : Batch). length (batch .words)) (batch-none o
 batch-length a (r ∷ rs) =
     ap (λ (batch : Batch). length (batch .words)) (batch-more ours a r rs)
     ∙ batch-length (madeSingly ours (wantedIn r) a .words) rs
-    ∙ wanted-behaves a (wantedIn r) .same-length
+    ∙ wanted-behaves policyOf all-fitting a (wantedIn r) .same-length
 
 pub batch-sound : (a : List ℕ) (rs : List Request) → sound a ≡ true → sound (batchOn a rs .words) ≡ true
 batch-sound a [] s = rw (batch-none ours a) s
 batch-sound a (r ∷ rs) s =
-    rw (batch-more ours a r rs) (batch-sound (madeSingly ours (wantedIn r) a .words) rs (wanted-behaves a (wantedIn r) .still-sound s))
+    rw (batch-more ours a r rs) (batch-sound (madeSingly ours (wantedIn r) a .words) rs (wanted-behaves policyOf all-fitting a (wantedIn r) .still-sound s))

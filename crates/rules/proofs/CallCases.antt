@@ -20,7 +20,9 @@ use Rattle.rules.specs.Spots.{Spot, at, held}
 use Rattle.rules.specs.Rules.{taken, cut, joined, released, grantedAt, grantFrom, allotted, freeWords, widest, liveBlocks, freeChunks}
 use Rattle.rules.specs.Calls.{onBlock, granted, startOn, allocBy, allocOn, freeOn, sizeOn, reportOn}
 use Rattle.rules.specs.Stands.{GapAt}
-use Rattle.rules.proofs.Searches.{BlockAt, BlockSearch, no-block, a-block, block-search, GapSearch, no-gap, a-gap, gap-search}
+use Rattle.rules.specs.Fits.{Policy, firstFit, Picks, no-gap, a-gap, Fitting}
+use Rattle.rules.proofs.Fits.{first-fitting}
+use Rattle.rules.proofs.Searches.{BlockAt, BlockSearch, no-block, a-block, block-search}
 use Rattle.rules.proofs.Gates.{Checked, unlawful, damaged, whole, checked, Asked, for-none, for-more, for-some, asked}
 use Rattle.rules.specs.Causes.{LawfulRequest, StartRefused, ReportRefused, BlockRefused, AllocRefused}
 
@@ -61,17 +63,18 @@ start-case a = go (lawful (length a)) refl
     go true e = does (restarts e)
     go false e = refuses Length (refl, e)
 
--- what alloc does: the need is taken from a free chunk that fits; which one, its definition says
+-- what alloc does: the need is taken from a free chunk that fits; which one, its policy says
 pub data Allots (a : List ℕ) (n : ℕ) : List ℕ → List ℕ → Type 0 where
   allots : sound a ≡ true → LawfulRequest (length a) n → (pre : List Chunk) (s : ℕ) (post : List Chunk) → GapAt a (need n) pre s post
       → Allots a n ((firstChunk + total pre + (s - taken (need n) s) + headerWords) ∷ (taken (need n) s - headerWords) ∷ [])
       (written (pre ++ (cut (need n) s ++ post)) a)
 
-pub alloc-case : (a : List ℕ) (n : ℕ) → Case 2 a (AllocRefused a n) (Allots a n) (allocOn a n)
+-- under any policy that is fitting
+pub alloc-by-case : (policy : Policy) → Fitting policy → (a : List ℕ) (n : ℕ) → Case 2 a (AllocRefused a n) (Allots a n) (allocBy policy a n)
 unfolding allocBy
-alloc-case a n = go (checked a) (asked (length a) n) (gap-search a (need n))
+alloc-by-case policy fitting a n = go (checked a) (asked (length a) n) (fitting (need n) (chunksOf a))
   where
-    go : {arena request : Gate} {gap : Spot} → Checked a arena → Asked (length a) n request → GapSearch a (need n) gap
+    go : {arena request : Gate} {gap : Spot} → Checked a arena → Asked (length a) n request → Picks (chunksOf a) (need n) gap
         → Case 2 a (AllocRefused a n) (Allots a n) (settle 2 a (pass arena (pass request (granted NoRoom (allotted (grantFrom (need n) gap) a)))))
     go (unlawful e) q g = refuses Length e
     go (damaged e f) q g = refuses Damaged (e, f)
@@ -79,6 +82,9 @@ alloc-case a n = go (checked a) (asked (length a) n) (gap-search a (need n))
     go (whole e) (for-more m) g = refuses TooLarge (e, m)
     go (whole e) (for-some r) (no-gap h) = refuses NoRoom (e, (r, h))
     go (whole e) (for-some r) (a-gap pre s post is) = does (allots e r pre s post is)
+
+pub alloc-case : (a : List ℕ) (n : ℕ) → Case 2 a (AllocRefused a n) (Allots a n) (allocOn a n)
+alloc-case = alloc-by-case firstFit first-fitting
 
 -- a call on block `b`: where there is the block, its fields and the words follow from the spot
 block-case : (a : List ℕ) (b fields : ℕ) (Does : List ℕ → List ℕ → Type 0) (values after : Spot → List ℕ)

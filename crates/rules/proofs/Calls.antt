@@ -5,14 +5,16 @@ use Prim.Native.Nat.{ℕ}
 use Rattle.layout.specs.Reasons.{number}
 use Rattle.layout.specs.declared.Reason.{Reason}
 use Rattle.rules.specs.Answers.{Outcome}
-use Rattle.rules.specs.Calls.{startOn, allocOn, freeOn, resizeOn, relocateOn, reallocOn, sizeOn, reportOn, writeOn, readOn}
+use Rattle.rules.specs.Calls.{startOn, allocBy, allocOn, allocBestOn, allocNextOn, freeOn, resizeOn, relocateOn, reallocOn, sizeOn, reportOn, writeOn, readOn}
 use Rattle.rules.specs.Causes.{StartRefused, AllocRefused, BlockRefused, ResizeRefused, RelocateRefused, ReallocRefused, ReportRefused}
 use Rattle.rules.specs.Causes.{WriteRefused, ReadRefused}
 use Rattle.rules.specs.Behaves.{Behaves}
-use Rattle.rules.proofs.CallCases.{Case, refuses, does, refused-unchanged, refused-zeros, start-case, alloc-case, free-case, size-case}
+use Rattle.rules.specs.Fits.{Policy, firstFit, bestFit, nextFit, Fitting}
+use Rattle.rules.proofs.Fits.{first-fitting, best-fitting, next-fitting}
+use Rattle.rules.proofs.CallCases.{Case, refuses, does, refused-unchanged, refused-zeros, start-case, alloc-by-case, free-case, size-case}
 use Rattle.rules.proofs.CallCases.{report-case}
 use Rattle.rules.proofs.RegrantCases.{resize-case, relocate-case, realloc-case}
-use Rattle.rules.proofs.Given.{refused-for, done-unless, start-gives, alloc-gives, free-gives, resize-gives, relocate-gives, realloc-gives}
+use Rattle.rules.proofs.Given.{refused-for, done-unless, start-gives, alloc-by-gives, free-gives, resize-gives, relocate-gives, realloc-gives}
 use Rattle.rules.proofs.Given.{size-gives, report-gives}
 use Rattle.rules.proofs.Keeping.{Kept, kept, same-kept, starts-kept, allots-kept, frees-kept, resizes-kept, relocates-kept, regrants-kept}
 use Rattle.rules.proofs.Keeping.{measures-same, reports-same}
@@ -38,8 +40,18 @@ module _ (a : List ℕ) where
   pub start-behaves : Behaves 0 a (StartRefused a) (startOn a)
   start-behaves = behaves (start-case a) (start-gives a) (starts-kept a)
 
+  -- alloc under any policy that is fitting
+  pub alloc-by-behaves : (policy : Policy) → Fitting policy → (n : ℕ) → Behaves 2 a (AllocRefused a n) (allocBy policy a n)
+  alloc-by-behaves policy fitting n = behaves (alloc-by-case policy fitting a n) (alloc-by-gives a policy fitting n) (allots-kept a n)
+
   pub alloc-behaves : (n : ℕ) → Behaves 2 a (AllocRefused a n) (allocOn a n)
-  alloc-behaves n = behaves (alloc-case a n) (alloc-gives a n) (allots-kept a n)
+  alloc-behaves = alloc-by-behaves firstFit first-fitting
+
+  pub alloc-best-behaves : (n : ℕ) → Behaves 2 a (AllocRefused a n) (allocBestOn a n)
+  alloc-best-behaves = alloc-by-behaves bestFit best-fitting
+
+  pub alloc-next-behaves : (rover n : ℕ) → Behaves 2 a (AllocRefused a n) (allocNextOn a rover n)
+  alloc-next-behaves rover = alloc-by-behaves (nextFit rover) (next-fitting rover)
 
   pub free-behaves : (b : ℕ) → Behaves 0 a (BlockRefused a b) (freeOn a b)
   free-behaves b = behaves (free-case a b) (free-gives a b) (frees-kept a b)

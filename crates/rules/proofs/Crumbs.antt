@@ -20,15 +20,16 @@ use Rattle.rules.specs.Spots.{held}
 use Rattle.rules.specs.Rules.{cut, trim, join, joined, released, copied}
 use Rattle.rules.specs.Rooms.{roomWords, roomAfter}
 use Rattle.rules.specs.Crumbs.{crumb, crumbs, freeSizes}
-use Rattle.rules.specs.Calls.{allocOn, freeOn, resizeOn, relocateOn, reallocOn}
+use Rattle.rules.specs.Calls.{allocBy, freeOn, resizeOn, relocateOn, reallocOn}
 use Rattle.rules.specs.Causes.{ReallocRefused}
+use Rattle.rules.specs.Fits.{Policy, Fitting}
 use Rattle.rules.proofs.Remainder.{Remainder, split, whole, remainder}
 use Rattle.rules.proofs.Rooms.{roomTail, room-split}
 use Rattle.rules.proofs.Staying.{KeepsOfRoom, splits-rest, hands-over, its-room}
 use Rattle.rules.proofs.Searches.{BlockAt, one-block}
 use Rattle.rules.proofs.OldBlock.{StillThere, still-there}
 use Rattle.rules.proofs.Gates.{request-needed}
-use Rattle.rules.proofs.CallCases.{Case, refuses, does, Allots, allots, Frees, frees, alloc-case, free-case}
+use Rattle.rules.proofs.CallCases.{Case, refuses, does, Allots, allots, Frees, frees, alloc-by-case, free-case}
 use Rattle.rules.proofs.RegrantCases.{Resizes, resizes, Relocates, moves, Regrants, in-place, elsewhere}
 use Rattle.rules.proofs.RegrantCases.{resize-case, relocate-case, realloc-case}
 use Rattle.rules.proofs.Keeping.{freed-lawful, allots-lawful, resizes-lawful}
@@ -176,8 +177,9 @@ module _ (a : List ℕ) where
 
   -- ---- the calls, done or refused
 
-  pub alloc-crumbs : (n : ℕ) → crumbsOf (allocOn a n .words) ≤ crumbsOf a
-  alloc-crumbs n = omega (arith, case-crumbs 0 (allots-crumbs n) (alloc-case a n))
+  -- alloc under any policy that is fitting
+  pub alloc-by-crumbs : (policy : Policy) → Fitting policy → (n : ℕ) → crumbsOf (allocBy policy a n .words) ≤ crumbsOf a
+  alloc-by-crumbs policy fitting n = omega (arith, case-crumbs 0 (allots-crumbs n) (alloc-by-case policy fitting a n))
 
   pub resize-crumbs : (b n : ℕ) → crumbsOf (resizeOn a b n .words) ≤ crumbsOf a
   resize-crumbs b n = omega (arith, case-crumbs 0 (resizes-crumbs b n) (resize-case a b n))

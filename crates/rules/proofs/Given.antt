@@ -16,10 +16,12 @@ use Rattle.layout.proofs.Reasons.{number-positive, number-injective}
 use Rattle.rules.specs.Answers.{Outcome, done, settle, pass}
 use Rattle.rules.specs.Spots.{held}
 use Rattle.rules.specs.Rules.{Way, released, grantedAt, Regrant, regranted, resized, relocated}
-use Rattle.rules.specs.Calls.{onBlock, granted, startOn, allocBy, allocOn, freeOn, regrantBy, resizeOn, relocateOn, reallocOn, sizeOn, reportOn}
+use Rattle.rules.specs.Calls.{onBlock, granted, startOn, allocBy, freeOn, regrantBy, resizeOn, relocateOn, reallocOn, sizeOn, reportOn}
 use Rattle.layout.proofs.Round.{sound-lawful}
 use Rattle.rules.proofs.Gates.{unlawful-gate, damaged-gate, sound-gate, zero-gate, large-gate, request-gate}
-use Rattle.rules.proofs.Searches.{no-block-held, block-held, no-gap-fits}
+use Rattle.rules.proofs.Searches.{no-block-held, block-held}
+use Rattle.rules.specs.Fits.{Policy, firstFit, Fitting}
+use Rattle.rules.proofs.Fits.{first-fitting, picks-nowhere}
 use Rattle.rules.specs.Causes.{Grounds, Short, StartRefused, ReportRefused, BlockRefused, AllocRefused, RegrantRefused, ResizeRefused}
 use Rattle.rules.specs.Causes.{RelocateRefused, ReallocRefused}
 use Rattle.rules.proofs.CallCases.{Case, refuses, does, refused-unchanged}
@@ -102,17 +104,19 @@ module _ (a : List ℕ) where
   unfolding sizeOn
   size-gives b = block-gives b 1 (grantedAt (held b (chunksOf a)) ∷ []) a
 
-  pub alloc-gives : (n : ℕ) (why : Reason) → AllocRefused a n why → allocOn a n .answer .code ≡ number why
+  pub alloc-by-gives : (policy : Policy) → Fitting policy → (n : ℕ) (why : Reason) → AllocRefused a n why
+      → allocBy policy a n .answer .code ≡ number why
   unfolding allocBy
-  alloc-gives n Length l = rw (unlawful-gate a l)
-  alloc-gives n Damaged (l, s) = rw (damaged-gate a l s)
-  alloc-gives n NotABlock (e, h) = absurd h
-  alloc-gives n Zero (e, z) = rw (sound-gate a e, zero-gate a n z)
-  alloc-gives n TooLarge (e, m) = rw (sound-gate a e, large-gate a n m)
-  alloc-gives n NoRoom (e, (r, h)) = rw (sound-gate a e, request-gate a n r, no-gap-fits a (need n) h)
-  alloc-gives n Frame h = absurd h
-  alloc-gives n WouldMove (e, h) = absurd h
-  alloc-gives n TextRoom h = absurd h
+  alloc-by-gives policy fitting n Length l = rw (unlawful-gate a l)
+  alloc-by-gives policy fitting n Damaged (l, s) = rw (damaged-gate a l s)
+  alloc-by-gives policy fitting n NotABlock (e, h) = absurd h
+  alloc-by-gives policy fitting n Zero (e, z) = rw (sound-gate a e, zero-gate a n z)
+  alloc-by-gives policy fitting n TooLarge (e, m) = rw (sound-gate a e, large-gate a n m)
+  alloc-by-gives policy fitting n NoRoom (e, (r, h)) =
+      rw (sound-gate a e, request-gate a n r, picks-nowhere policy fitting (need n) (chunksOf a) .1 h)
+  alloc-by-gives policy fitting n Frame h = absurd h
+  alloc-by-gives policy fitting n WouldMove (e, h) = absurd h
+  alloc-by-gives policy fitting n TextRoom h = absurd h
 
   -- a call that grants a block anew: its own are the last two
   regrant-gives : (b n : ℕ) (last : Reason) (rule : Regrant) (room stuck : Type 0) → let code = regrantBy last rule a b n .answer .code in
@@ -146,7 +150,7 @@ module _ (a : List ℕ) where
   pub relocate-gives : (b n : ℕ) (why : Reason) → RelocateRefused a b n why → relocateOn a b n .answer .code ≡ number why
   unfolding regrantBy
   relocate-gives b n = regrant-gives b n NoRoom relocated _ _
-      (λ (e, (r, (pre, s, post, is), h)). rw (sound-gate a e, block-held a b pre s post e is, request-gate a n r, no-gap-fits a (need n) h))
+      (λ (e, (r, (pre, s, post, is), h)). rw (sound-gate a e, block-held a b pre s post e is, request-gate a n r, picks-nowhere firstFit first-fitting (need n) (chunksOf a) .1 h))
       (λ h. absurd (h .1))
 
   -- realloc lacks room where the resize would move the block and the move lacks room

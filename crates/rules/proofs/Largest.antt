@@ -1,4 +1,4 @@
--- The second number that report answers is the largest request that alloc would grant now.
+-- The second number that report answers is the largest request that alloc would grant now, under whichever fit.
 use mathlib.Core.Path.{_≡_, refl, sym, ap, _∙_}
 use mathlib.Core.Logic.{_≢_}
 use mathlib.Core.Bool.{true, true≢false}
@@ -16,13 +16,14 @@ use Rattle.layout.proofs.Round.{sound-lawful, sound-chunks}
 use Rattle.layout.proofs.Reasons.{number-positive}
 use Rattle.rules.specs.Answers.{Outcome}
 use Rattle.rules.specs.Rules.{widest}
-use Rattle.rules.specs.Calls.{allocOn, reportOn}
+use Rattle.rules.specs.Fits.{Policy, Fitting}
+use Rattle.rules.specs.Calls.{allocBy, reportOn}
 use Rattle.rules.proofs.ReportCounts.{counts-within}
 use Rattle.rules.proofs.Searches.{FreeShorter, no-gap-shorter, free-shorter-tail}
 use Rattle.rules.specs.Causes.{AllocRefused}
-use Rattle.rules.proofs.CallCases.{Case, refuses, does, Allots, allots, alloc-case}
+use Rattle.rules.proofs.CallCases.{Case, refuses, does, Allots, allots, alloc-by-case}
 use Rattle.rules.proofs.Gates.{sound-gate}
-use Rattle.rules.proofs.Calls.{alloc-behaves}
+use Rattle.rules.proofs.Calls.{alloc-by-behaves}
 
 -- ---- the size of the largest free chunk
 
@@ -54,32 +55,33 @@ module _ (a : List ℕ) (e : sound a ≡ true) where
   unfolding reportOn
   largest-is = rw (sound-gate a e)
 
-  pub largest-granted : (n : ℕ) → 1 ≤ n → n ≤ largest a → allocOn a n .answer .code ≡ 0
-  largest-granted n one small = alloc-behaves a n .done .1 none
-    where
-      none : (why : Reason) → AllocRefused a n why → ⊥
-      none Length l = true≢false (sym (sound-lawful a e) ∙ l)
-      none Damaged (l, s) = true≢false (sym e ∙ s)
-      none NotABlock (s, h) = h
-      none Zero (s, z) = omega arith
-      none TooLarge (s, m) = let r = sound-chunks a e .law in omega (arith, largest-is, counts-within (chunksOf a) (r .sizes) .widest-fits, r .fills)
-      none NoRoom (s, (r, h)) =
-          omega (
-            arith,
-            largest-is,
-            widest-even (chunksOf a) (sound-chunks a e .law .sizes),
-            widest-below (chunksOf a) (need n) (omega arith)
-                (no-gap-shorter a (need n) .0 h),
-          )
-      none Frame h = h
-      none WouldMove (s, h) = h
-      none TextRoom h = h
+  module _ (policy : Policy) (fitting : Fitting policy) where
+    pub largest-granted : (n : ℕ) → 1 ≤ n → n ≤ largest a → allocBy policy a n .answer .code ≡ 0
+    largest-granted n one small = alloc-by-behaves a policy fitting n .done .1 none
+      where
+        none : (why : Reason) → AllocRefused a n why → ⊥
+        none Length l = true≢false (sym (sound-lawful a e) ∙ l)
+        none Damaged (l, s) = true≢false (sym e ∙ s)
+        none NotABlock (s, h) = h
+        none Zero (s, z) = omega arith
+        none TooLarge (s, m) = let r = sound-chunks a e .law in omega (arith, largest-is, counts-within (chunksOf a) (r .sizes) .widest-fits, r .fills)
+        none NoRoom (s, (r, h)) =
+            omega (
+              arith,
+              largest-is,
+              widest-even (chunksOf a) (sound-chunks a e .law .sizes),
+              widest-below (chunksOf a) (need n) (omega arith)
+                  (no-gap-shorter a (need n) .0 h),
+            )
+        none Frame h = h
+        none WouldMove (s, h) = h
+        none TextRoom h = h
 
-  pub above-largest : (n : ℕ) → largest a < n → allocOn a n .answer .code ≢ 0
-  above-largest n large code = go (alloc-case a n) code
-    where
-      go : {outcome : Outcome} → Case 2 a (AllocRefused a n) (Allots a n) outcome → outcome .answer .code ≢ 0
-      go (refuses why r) c = omega (arith, number-positive why)
-      go (does (allots s r pre t post (same, enough))) c =
-          let w : widest (chunksOf a) ≡ widest (pre ++ free t ∷ post) = ap widest same in
-          omega (arith, largest-is, widest-least pre t post, enough)
+    pub above-largest : (n : ℕ) → largest a < n → allocBy policy a n .answer .code ≢ 0
+    above-largest n large code = go (alloc-by-case policy fitting a n) code
+      where
+        go : {outcome : Outcome} → Case 2 a (AllocRefused a n) (Allots a n) outcome → outcome .answer .code ≢ 0
+        go (refuses why r) c = omega (arith, number-positive why)
+        go (does (allots s r pre t post (same, enough))) c =
+            let w : widest (chunksOf a) ≡ widest (pre ++ free t ∷ post) = ap widest same in
+            omega (arith, largest-is, widest-least pre t post, enough)

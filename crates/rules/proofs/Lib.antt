@@ -2,6 +2,8 @@
 pub mod Outcomes
 pub mod Gates
 pub mod Lowest
+pub mod Fits
+pub mod Lesson
 pub mod Searches
 pub mod Remainder
 pub mod Joining

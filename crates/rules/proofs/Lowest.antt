@@ -1,9 +1,10 @@
 -- The lowest chunk that passes a test: what it is, and where it stands.
-use mathlib.Core.Path.{_≡_, refl, ap}
-use mathlib.Core.Bool.{Bool, true, false, cond}
+use mathlib.Core.Path.{_≡_, refl, sym, ap, _∙_}
+use mathlib.Core.Bool.{Bool, true, false, true≢false, cond}
 use mathlib.Core.List.{List, [], _∷_, _++_}
-use Prim.Native.Nat.{ℕ, _+_}
+use Prim.Native.Nat.{ℕ, _+_, _≤_}
 use native.Mathlib.Omega.{arith}
+use Rattle.layout.specs.Numbers.{firstChunk}
 use Rattle.layout.specs.Chunks.{Chunk, size, total}
 use Rattle.rules.specs.Spots.{Spot, nowhere, at, behind, lowest}
 
@@ -59,3 +60,37 @@ module _ (test : ℕ → Chunk → Bool) where
       → (ks ≡ pre ++ k ∷ post) × Missed c pre × (test (c + total pre) k ≡ true)
   unfolding Told
   lowest-hit c ks pre k post e = rw e at (told c ks)
+
+  -- where it is nowhere, none passes
+  missed-at : (c : ℕ) (pre : List Chunk) (k : Chunk) (post : List Chunk) (d : ℕ) → d ≡ c + total pre → Missed c (pre ++ k ∷ post)
+      → test d k ≡ false
+  missed-at c [] k post d e m = ap (λ (i : ℕ). test i k) (omega arith) ∙ m .0
+  missed-at c (l ∷ pre) k post d e m = missed-at (c + size l) pre k post d (omega arith) (m .1)
+
+  pub none-passes : (ks pre : List Chunk) (k : Chunk) (post : List Chunk) → lowest test firstChunk ks ≡ nowhere → ks ≡ pre ++ k ∷ post
+      → test (firstChunk + total pre) k ≡ false
+  none-passes ks pre k post e same =
+      missed-at firstChunk pre k post (firstChunk + total pre) refl (rw same at (lowest-miss firstChunk ks e))
+
+  -- one that passes does not lie lower
+  not-lower : (c : ℕ) (pre : List Chunk) (k : Chunk) (post pre′ : List Chunk) (l : Chunk) (post′ : List Chunk) (d : ℕ) → Missed c pre
+      → pre ++ k ∷ post ≡ pre′ ++ l ∷ post′
+      → d ≡ c + total pre′ → test d l ≡ true → total pre ≤ total pre′
+  not-lower c [] k post pre′ l post′ d m same e t = omega arith
+  not-lower c (h ∷ pre) k post [] l post′ d m same e t =
+      let is : h ≡ l = cc in
+      let at-c : d ≡ c = omega arith in
+      absurd (true≢false (sym t ∙ (rw (at-c, ← is) (m .0))))
+  not-lower c (h ∷ pre) k post (h′ ∷ pre′) l post′ d m same e t =
+      let is : h ≡ h′ = cc in
+      let sized : size h ≡ size h′ = ap size is in
+      let rest : pre ++ k ∷ post ≡ pre′ ++ l ∷ post′ = cc in
+      let from : d ≡ c + size h + total pre′ = omega arith in
+      omega (arith, not-lower (c + size h) pre k post pre′ l post′ d (m .1) rest from t)
+
+  pub lowest-least : (ks pre : List Chunk) (k : Chunk) (post pre′ : List Chunk) (l : Chunk) (post′ : List Chunk)
+      → lowest test firstChunk ks ≡ at pre k post → ks ≡ pre′ ++ l ∷ post′
+      → test (firstChunk + total pre′) l ≡ true → total pre ≤ total pre′
+  lowest-least ks pre k post pre′ l post′ e same t =
+      let h = lowest-hit firstChunk ks pre k post e in
+      not-lower firstChunk pre k post pre′ l post′ _ (h .1) (sym (h .0) ∙ same) refl t

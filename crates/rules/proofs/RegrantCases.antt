@@ -16,7 +16,8 @@ use Rattle.layout.specs.declared.Reason.{Reason}
 use Rattle.layout.specs.declared.Reason.the-variants.{Length, Damaged, NotABlock, Zero, TooLarge, NoRoom, WouldMove}
 use Rattle.layout.proofs.Holds.{Sizes}
 use Rattle.rules.specs.Answers.{Outcome, refused, settle, pass}
-use Rattle.rules.specs.Spots.{Spot, at, held, firstFit}
+use Rattle.rules.specs.Spots.{Spot, at, held}
+use Rattle.rules.specs.Fits.{firstFit, Picks, no-gap, a-gap}
 use Rattle.rules.specs.Rules.{Way, shut, orElse, taken, cut, trim, released, copied, grantFrom, stay, shrink, grow, move, Regrant, regranted}
 use Rattle.rules.specs.Rules.{resized, relocated}
 use Rattle.rules.specs.Calls.{onBlock, granted, regrantBy, resizeOn, relocateOn, reallocOn}
@@ -25,7 +26,8 @@ use Rattle.rules.proofs.Rooms.{short-room}
 use Rattle.rules.proofs.Staying.{in-room, KeepsOfRoom, keeps-of-room}
 use Rattle.rules.proofs.Remainder.{shorter-old}
 use Rattle.rules.specs.Stands.{GapAt}
-use Rattle.rules.proofs.Searches.{BlockAt, block-sizes, BlockSearch, no-block, a-block, block-search, GapSearch, no-gap, a-gap, gap-search}
+use Rattle.rules.proofs.Fits.{first-fitting}
+use Rattle.rules.proofs.Searches.{BlockAt, block-sizes, BlockSearch, no-block, a-block, block-search}
 use Rattle.rules.specs.Causes.{LawfulRequest, Short, RegrantRefused, ResizeRefused, RelocateRefused, ReallocRefused}
 use Rattle.rules.proofs.CallCases.{Case, refuses, does}
 use Rattle.rules.proofs.Gates.{Checked, unlawful, damaged, whole, checked, Asked, for-none, for-more, for-some, asked}
@@ -99,7 +101,7 @@ module _ (a : List ℕ) (b n : ℕ) where
   -- a call that grants a block anew is refused before its rule is asked, or all depends on the rule at the block
   regrant-case : (why : Reason) (rule : Regrant) (room stuck : Type 0) (Does : List ℕ → List ℕ → Type 0)
       → (sound a ≡ true → LawfulRequest (length a) n → (pre : List Chunk) (s : ℕ) (post : List Chunk) → BlockAt a b pre s post → (gap : Spot)
-      → GapSearch a (need n) gap
+      → Picks (chunksOf a) (need n) gap
       → Case 2 a (RegrantRefused a b n room stuck) Does
       (settle 2 a (granted why (rule b (need n) (at pre (live s) post) (grantFrom (need n) gap) a))))
       → Case 2 a (RegrantRefused a b n room stuck) Does (regrantBy why rule a b n)
@@ -107,7 +109,7 @@ module _ (a : List ℕ) (b n : ℕ) where
     where
       go : {call : Reason → Regrant → Outcome} → Regrantings room stuck call → Case 2 a (RegrantRefused a b n room stuck) Does (call why rule)
       go (all-refused r low so) = refuses r so
-      go (at-block e r pre s post is) = there e r pre s post is _ (gap-search a (need n))
+      go (at-block e r pre s post is) = there e r pre s post is _ (first-fitting (need n) (chunksOf a))
 
   pub resize-case : Case 2 a (ResizeRefused a b n) (Resizes a b n) (resizeOn a b n)
   resize-case =
@@ -123,7 +125,7 @@ module _ (a : List ℕ) (b n : ℕ) where
   relocate-case = regrant-case NoRoom relocated _ _ (Relocates a b n) (λ e r pre s post is gap g. go pre s post e r is g)
     where
       go : {gap : Spot} (pre : List Chunk) (s : ℕ) (post : List Chunk) → sound a ≡ true → LawfulRequest (length a) n → BlockAt a b pre s post
-          → GapSearch a (need n) gap
+          → Picks (chunksOf a) (need n) gap
           → Case 2 a (RelocateRefused a b n) (Relocates a b n)
           (settle 2 a (granted NoRoom (relocated b (need n) (at pre (live s) post) (grantFrom (need n) gap) a)))
       go pre s post e r is (no-gap h) = refuses NoRoom (e, (r, (pre, s, post, is), h))
@@ -134,7 +136,7 @@ module _ (a : List ℕ) (b n : ℕ) where
       (λ e r pre s post is gap g. go pre s post e r is (stays-told a b (need n) pre s post e is) g)
     where
       go : {way : Way} {gap : Spot} (pre : List Chunk) (s : ℕ) (post : List Chunk) → sound a ≡ true → LawfulRequest (length a) n → BlockAt a b pre s post
-          → Stays a b (need n) pre s post way → GapSearch a (need n) gap
+          → Stays a b (need n) pre s post way → Picks (chunksOf a) (need n) gap
           → Case 2 a (ReallocRefused a b n) (Regrants a b n)
           (settle 2 a (granted NoRoom (orElse way (move b (s - headerWords) (grantFrom (need n) gap) a))))
       go pre s post e r is (by-room keep k) g = does (in-place (resizes e r pre s post is keep k))

@@ -1,5 +1,4 @@
--- What the two searches among the chunks come to: the block that a number names or none, and the lowest free chunk that
--- fits a need or none.
+-- What the search for a block comes to: the live chunk that a number names, or none.
 use mathlib.Core.Path.{_≡_, refl, ap, _∙_}
 use mathlib.Core.Logic.{_↔_}
 use mathlib.Core.Bool.{Bool, true, false, false≢true}
@@ -13,9 +12,9 @@ use Rattle.layout.specs.Chunks.{Chunk, free, live, size, total}
 use Rattle.layout.specs.Walk.{sound, chunksOf}
 use Rattle.layout.proofs.Holds.{Sizes, sizes-split}
 use Rattle.layout.proofs.Round.{sound-chunks}
-use Rattle.rules.specs.Spots.{Spot, nowhere, at, lowest, fits, isBlock, firstFit, held}
-use Rattle.rules.specs.Stands.{Stands, NoBlock, GapAt, NoGap}
-use Rattle.rules.proofs.Lowest.{Missed, lowest-at, lowest-hit, lowest-miss}
+use Rattle.rules.specs.Spots.{Spot, nowhere, at, isBlock, held}
+use Rattle.rules.specs.Stands.{Stands, NoBlock, NoGap}
+use Rattle.rules.proofs.Lowest.{Missed, lowest-at, lowest-hit, none-passes}
 
 -- block `b` is the live chunk of `s` words between `pre` and `post`
 abbrev pub BlockAt : List ℕ → ℕ → List Chunk → ℕ → List Chunk → Type 0
@@ -47,18 +46,6 @@ no-gap-shorter a need = (
 
 pub free-shorter-tail : (need : ℕ) (k : Chunk) (ks : List Chunk) → FreeShorter need (k ∷ ks) → FreeShorter need ks
 free-shorter-tail need k ks f pre s post e = f (k ∷ pre) s post (ap (_∷_ k) e)
-
--- where the lowest chunk that passes a test is nowhere, none passes it
-missed-at : (test : ℕ → Chunk → Bool) (c : ℕ) (pre : List Chunk) (k : Chunk) (post : List Chunk) (d : ℕ) → d ≡ c + total pre
-    → Missed test c (pre ++ k ∷ post) → test d k ≡ false
-missed-at test c [] k post d e m = ap (λ (i : ℕ). test i k) (omega arith) ∙ m .0
-missed-at test c (l ∷ pre) k post d e m = missed-at test (c + size l) pre k post d (omega arith) (m .1)
-
-none-passes : (test : ℕ → Chunk → Bool) (ks pre : List Chunk) (k : Chunk) (post : List Chunk) → lowest test firstChunk ks ≡ nowhere
-    → ks ≡ pre ++ k ∷ post
-    → test (firstChunk + total pre) k ≡ false
-none-passes test ks pre k post e same =
-    missed-at test firstChunk pre k post (firstChunk + total pre) refl (rw same at (lowest-miss test firstChunk ks e))
 
 -- ---- the search for a block
 
@@ -115,27 +102,3 @@ one-block a b pre pre′ s s′ post post′ e is is′ =
     let held = block-held a b pre s post e is in
     let held′ = block-held a b pre′ s′ post′ e is′ in
     (cc, cc)
-
--- ---- the search for a free chunk that fits
-
-pub data GapSearch (a : List ℕ) (need : ℕ) : Spot → Type 0 where
-  no-gap : NoGap a need → GapSearch a need nowhere
-  a-gap : (pre : List Chunk) (s : ℕ) (post : List Chunk) → GapAt a need pre s post → GapSearch a need (at pre (free s) post)
-
-pub gap-search : (a : List ℕ) (need : ℕ) → GapSearch a need (firstFit need (chunksOf a))
-gap-search a need = go (firstFit need (chunksOf a)) refl
-  where
-    go : (spot : Spot) → firstFit need (chunksOf a) ≡ spot → GapSearch a need spot
-    go nowhere e =
-        no-gap (λ pre s post gap. omega (arith, leb-false need s (none-passes (fits need) (chunksOf a) pre (free s) post e (gap .0)), gap .1))
-    go (at pre (live s) post) e = absurd (false≢true (lowest-hit (fits need) firstChunk (chunksOf a) pre (live s) post e .2))
-    go (at pre (free s) post) e =
-        let h = lowest-hit (fits need) firstChunk (chunksOf a) pre (free s) post e in
-        a-gap pre s post (h .0, leb-true need s (h .2))
-
-pub no-gap-fits : (a : List ℕ) (need : ℕ) → NoGap a need → firstFit need (chunksOf a) ≡ nowhere
-no-gap-fits a need none = go (gap-search a need)
-  where
-    go : {spot : Spot} → GapSearch a need spot → spot ≡ nowhere
-    go (no-gap h) = refl
-    go (a-gap pre s post gap) = absurd (none pre s post gap)

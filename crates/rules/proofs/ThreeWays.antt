@@ -13,10 +13,12 @@ use Rattle.layout.specs.Reasons.{number}
 use Rattle.layout.specs.declared.Reason.{Reason}
 use Rattle.layout.specs.declared.Reason.the-variants.{NoRoom, WouldMove}
 use Rattle.rules.specs.Answers.{Outcome, settle}
-use Rattle.rules.specs.Spots.{Spot, at, firstFit}
+use Rattle.rules.specs.Spots.{Spot, at}
+use Rattle.rules.specs.Fits.{firstFit, Picks, no-gap, a-gap}
 use Rattle.rules.specs.Rules.{Way, shut, grants, orElse, grantFrom, move, grantedIn, Regrant, regranted, resized, relocated}
 use Rattle.rules.specs.Calls.{granted, relocateOn, resizeElseRelocate, reallocOn}
-use Rattle.rules.proofs.Searches.{BlockAt, GapSearch, no-gap, a-gap, gap-search}
+use Rattle.rules.proofs.Fits.{first-fitting}
+use Rattle.rules.proofs.Searches.{BlockAt}
 use Rattle.rules.proofs.Remainder.{shorter-old}
 use Rattle.rules.proofs.RegrantCases.{Stays, by-room, by-none, stays-told, Regrantings, all-refused, at-block, regrantings}
 
@@ -24,9 +26,9 @@ use Rattle.rules.proofs.RegrantCases.{Stays, by-room, by-none, stays-to
 pub else-moves : (a : List ℕ) (b need : ℕ) (pre : List Chunk) (s : ℕ) (post : List Chunk) → sound a ≡ true → BlockAt a b pre s post
     → let spot = at pre (live s) post in let new = grantFrom need (firstFit need (chunksOf a)) in
     resized b need spot new a ≡ shut → regranted b need spot new a ≡ relocated b need spot new a
-else-moves a b need pre s post e is q = rw q (go (stays-told a b need pre s post e is) q (gap-search a need))
+else-moves a b need pre s post e is q = rw q (go (stays-told a b need pre s post e is) q (first-fitting need (chunksOf a)))
   where
-    go : {way : Way} {gap : Spot} → Stays a b need pre s post way → way ≡ shut → GapSearch a need gap
+    go : {way : Way} {gap : Spot} → Stays a b need pre s post way → way ≡ shut → Picks (chunksOf a) need gap
         → let new = grantFrom need gap in move b (s - headerWords) new a ≡ move b (min (s - headerWords) (grantedIn new)) new a
     go (by-room keep k) h f = absurd (let z : _≡_ {A = ℕ} 0 1 = cc in omega arith)
     go (by-none l) h (no-gap g) = refl

@@ -12,12 +12,13 @@ use Rattle.layout.specs.Walk.{chunksOf}
 use Rattle.layout.proofs.Round.{written-sound}
 use Rattle.rules.specs.Answers.{blockField, grantedField}
 use Rattle.rules.specs.Rules.{freeChunks}
-use Rattle.rules.specs.Calls.{allocOn, resizeOn, reallocOn}
+use Rattle.rules.specs.Fits.{Policy, Fitting}
+use Rattle.rules.specs.Calls.{allocBy, resizeOn, reallocOn}
 use Rattle.rules.specs.Rooms.{roomWords}
 use Rattle.rules.proofs.Remainder.{Remainder, split, whole, remainder}
 use Rattle.rules.proofs.Searches.{BlockAt, one-block}
 use Rattle.rules.proofs.Staying.{KeepsOfRoom, splits-rest, hands-over, its-room}
-use Rattle.rules.proofs.CallCases.{done-does, Allots, allots, alloc-case}
+use Rattle.rules.proofs.CallCases.{done-does, Allots, allots, alloc-by-case}
 use Rattle.rules.proofs.RegrantCases.{Resizes, resizes, Regrants, in-place, elsewhere, resize-case, realloc-case}
 use Rattle.rules.proofs.Keeping.{allots-lawful}
 use Rattle.rules.proofs.BlockNumbers.{relocated-elsewhere}
@@ -49,10 +50,12 @@ module _ (a : List ℕ) where
       rw (written-sound _ a (allots-lawful a e n r pre s post gap) .1, gap .0)
       (cut-whole (need n) pre s post (omega arith) (remainder (need n) s (gap .1)))
 
-  pub alloc-whole : (n : ℕ) → allocOn a n .answer .code ≡ 0
-      → (headerWords + grantedField (allocOn a n .answer .values) ≡ need n)
-      ⊎ (1 + freeChunks (chunksOf (allocOn a n .words)) ≡ freeChunks (chunksOf a))
-  alloc-whole n done = allots-whole n _ _ (done-does (alloc-case a n) done)
+  -- alloc under any policy that is fitting
+  pub alloc-by-whole : (policy : Policy) → Fitting policy → (n : ℕ)
+      → let outcome = allocBy policy a n in
+      outcome .answer .code ≡ 0
+      → (headerWords + grantedField (outcome .answer .values) ≡ need n) ⊎ (1 + freeChunks (chunksOf (outcome .words)) ≡ freeChunks (chunksOf a))
+  alloc-by-whole policy fitting n done = allots-whole n _ _ (done-does (alloc-by-case policy fitting a n) done)
 
   module _ (b : ℕ) (pre : List Chunk) (s : ℕ) (post : List Chunk) (is : BlockAt a b pre s post) (n : ℕ) where
     resizes-whole : (values after : List ℕ) → Resizes a b n values after

@@ -5,6 +5,7 @@ use mathlib.Core.Bool.{cond}
 use mathlib.Core.List.{List, [], _∷_}
 use lib.Dec.{eqb}
 use Rattle.rules.specs.Answers.{Answer, Outcome, blockField, grantedField, noCall}
+use Rattle.rules.specs.Fits.{first-fit}
 use Rattle.rules.specs.Libraries.{Call, alloc, free, realloc, resize, relocate, size, Library, ours}
 use Rattle.rules.specs.declared.Request.{Request}
 use Rattle.rules.specs.declared.Served.{Served}
@@ -19,7 +20,7 @@ pub data Wanted : Type 0 where
 -- what a kind and its two numbers ask for; a number that the call does not take is not looked at
 unfoldable pub wanted : (kind b n : ℕ) → Wanted
 wanted kind b n =
-    cond (eqb kind 1) (aCall (alloc n))
+    cond (eqb kind 1) (aCall (alloc first-fit n))
     (cond (eqb kind 2) (aCall (free b))
     (cond (eqb kind 3) (aCall (realloc b n))
     (cond (eqb kind 4) (aCall (resize b n))

@@ -1,6 +1,7 @@
--- The eleven calls on an arena's words `a`: what each answers, and what each leaves. Reasons are looked for in the
+-- The calls on an arena's words `a`: what each answers, and what each leaves. Reasons are looked for in the
 -- order of their numbers, but that a text which is no picture is refused before all else.
 use Prim.Native.Nat.{ℕ, _-_}
+use mathlib.Core.Path.{_≡_}
 use mathlib.Core.List.{List, [], _∷_, _++_}
 use mathlib.Core.Bool.{cond}
 use lib.ListN.{length, take, drop}
@@ -11,8 +12,9 @@ use Rattle.layout.specs.Walk.{chunksOf}
 use Rattle.layout.specs.Reasons.{number, arenaGate, requestGate}
 use Rattle.layout.specs.declared.Reason.{Reason}
 use Rattle.layout.specs.declared.Reason.the-variants.{Length, NotABlock, NoRoom, Frame, WouldMove, TextRoom}
-use Rattle.rules.specs.Answers.{grantedField, Outcome, Result, refused, done, settle, pass}
-use Rattle.rules.specs.Spots.{Spot, nowhere, at, Policy, firstFit, held}
+use Rattle.rules.specs.Answers.{Answer, grantedField, Outcome, Result, refused, done, settle, pass, Gives}
+use Rattle.rules.specs.Spots.{Spot, nowhere, at, startOf, held}
+use Rattle.rules.specs.Fits.{Policy, firstFit, bestFit, nextFit}
 use Rattle.rules.specs.Rules.{Way, shut, grants, grantFrom, grantedAt, allotted, Regrant, regranted, resized, relocated, released, freeWords}
 use Rattle.rules.specs.Rules.{widest, liveBlocks, freeChunks}
 use Rattle.rules.specs.Pictures.{pictureOf, Said, bad, good, said}
@@ -39,8 +41,25 @@ allocBy policy a n =
     (pass (requestGate (length a) n)
     (granted NoRoom (allotted (grantFrom (need n) (policy (need n) (chunksOf a))) a))))
 
+-- alloc is under first fit, `alloc_best` under best fit, and `alloc_next` under next fit from a rover on
 abbrev pub allocOn : List ℕ → ℕ → Outcome
 allocOn a n = allocBy firstFit a n
+
+abbrev pub allocBestOn : List ℕ → ℕ → Outcome
+allocBestOn a n = allocBy bestFit a n
+
+abbrev pub allocNextOn : List ℕ → ℕ → ℕ → Outcome
+allocNextOn a rover n = allocBy (nextFit rover) a n
+
+-- the rover after that: where the chunk starts that was found; a refusal leaves it as it was
+unfoldable pub roverAfter : List ℕ → ℕ → ℕ → ℕ
+roverAfter a rover n =
+    cond (eqb (allocNextOn a rover n .answer .code) 0) (startOf (nextFit rover (need n) (chunksOf a))) rover
+
+-- the promise of next fit: it gives its outcome, and the rover is then as the rule says
+pub record Roves (a : List ℕ) (rover n : ℕ) (answer : Answer) (words : List ℕ) (moved : ℕ) : Type 0 where
+  pub gives : Gives (allocNextOn a rover n) answer words
+  pub moves : moved ≡ roverAfter a rover n
 
 -- the block's chunk becomes free, and free neighbours are merged
 unfoldable pub freeOn : List ℕ → ℕ → Outcome

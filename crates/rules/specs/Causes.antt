@@ -87,7 +87,7 @@ pub data ReadRefused (text a : List ℕ) : Reason → Type 0 where
 -- a view is never refused
 abbrev pub CallRefused : Call → List ℕ → Reason → Type 0
 CallRefused start a why = StartRefused a why
-CallRefused (alloc w) a why = AllocRefused a w why
+CallRefused (alloc fit w) a why = AllocRefused a w why
 CallRefused (free b) a why = BlockRefused a b why
 CallRefused (resize b w) a why = ResizeRefused a b w why
 CallRefused (relocate b w) a why = RelocateRefused a b w why
@@ -101,7 +101,7 @@ CallRefused (read text) a why = ReadRefused text a why
 -- how many fields a refusal has, all of them 0
 abbrev pub callFields : Call → ℕ
 callFields start = 0
-callFields (alloc w) = 2
+callFields (alloc fit w) = 2
 callFields (free b) = 0
 callFields (resize b w) = 2
 callFields (relocate b w) = 2

@@ -2,9 +2,9 @@
 use Prim.Native.Nat.{ℕ, _+_}
 use mathlib.Core.List.{List, [], _∷_}
 use mathlib.Core.Bool.{Bool, false, cond}
-use lib.Dec.{leb, eqb}
+use lib.Dec.{eqb}
 use Rattle.layout.specs.Numbers.{firstChunk, headerWords}
-use Rattle.layout.specs.Chunks.{Chunk, free, live, size}
+use Rattle.layout.specs.Chunks.{Chunk, free, live, size, total}
 
 -- a chunk in its place: the chunks before it, itself, the chunks after it
 pub data Spot : Type 0 where
@@ -16,28 +16,20 @@ abbrev pub behind : Chunk → Spot → Spot
 behind k nowhere = nowhere
 behind k (at pre l post) = at (k ∷ pre) l post
 
+-- the word where the chunk at a spot starts, 0 for nowhere
+abbrev pub startOf : Spot → ℕ
+startOf nowhere = 0
+startOf (at pre k post) = firstChunk + total pre
+
 -- the lowest of `ks`, which begin at word `c`, that passes a test of its start and itself
 unfoldable pub lowest : (ℕ → Chunk → Bool) → ℕ → List Chunk → Spot
 lowest test c [] = nowhere
 lowest test c (k ∷ ks) = cond (test c k) (at [] k ks) (behind k (lowest test (c + size k) ks))
 
--- a chunk fits a need: it is free, and its size is at least the need
-abbrev pub fits : ℕ → ℕ → Chunk → Bool
-fits need c (free s) = leb need s
-fits need c (live s) = false
-
 -- a chunk is block `b`: it is live, and its header ends at `b`
 abbrev pub isBlock : ℕ → ℕ → Chunk → Bool
 isBlock b c (free s) = false
 isBlock b c (live s) = eqb (c + headerWords) b
-
--- which free chunk a need is taken from
-abbrev pub Policy : Type 0
-Policy = ℕ → List Chunk → Spot
-
--- the lowest free chunk that fits
-abbrev pub firstFit : Policy
-firstFit need ks = lowest (fits need) firstChunk ks
 
 -- the live chunk that block number `b` names
 abbrev pub held : ℕ → List Chunk → Spot

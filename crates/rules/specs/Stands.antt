@@ -19,10 +19,17 @@ SomeBlock a b = (pre : List Chunk) × (s : ℕ) × (post : List Chunk) × Stands
 abbrev pub NoBlock : List ℕ → ℕ → Type 0
 NoBlock a b = SomeBlock a b → ⊥
 
--- a free chunk of `s` words, which have the need, stands between `pre` and `post`
-abbrev pub GapAt : List ℕ → ℕ → List Chunk → ℕ → List Chunk → Type 0
-GapAt a need pre s post = (chunksOf a ≡ pre ++ free s ∷ post) × (need ≤ s)
+-- of the chunks `ks`, a free one of `s` words, which have the need, stands between `pre` and `post`
+abbrev pub GapIn : List Chunk → ℕ → List Chunk → ℕ → List Chunk → Type 0
+GapIn ks need pre s post = (ks ≡ pre ++ free s ∷ post) × (need ≤ s)
 
 -- there is no such chunk
+abbrev pub NoGapIn : List Chunk → ℕ → Type 0
+NoGapIn ks need = (pre : List Chunk) (s : ℕ) (post : List Chunk) → GapIn ks need pre s post → ⊥
+
+-- so of the chunks of an arena
+abbrev pub GapAt : List ℕ → ℕ → List Chunk → ℕ → List Chunk → Type 0
+GapAt a need pre s post = GapIn (chunksOf a) need pre s post
+
 abbrev pub NoGap : List ℕ → ℕ → Type 0
-NoGap a need = (pre : List Chunk) (s : ℕ) (post : List Chunk) → GapAt a need pre s post → ⊥
+NoGap a need = NoGapIn (chunksOf a) need
