@@ -19,6 +19,6 @@
 #include "library.h"
 
 const struct library again = {
-    again_start,    again_alloc,   again_alloc_best, again_alloc_next, again_free,  again_resize, again_relocate,
-    again_realloc,  again_size,    again_report,     again_write,      again_read,  again_check,
+    again_start,   again_alloc, again_alloc_best, again_alloc_next, again_free, again_resize, again_relocate,
+    again_realloc, again_size,  again_report,     again_write,      again_read, again_check,
 };

@@ -151,6 +151,30 @@ static uint32_t both_alloc(uint32_t *arena, size_t words, uint32_t n, uint32_t a
     return agreed("alloc", arena, words, &mine, &theirs);
 }
 
+static uint32_t both_alloc_best(uint32_t *arena, size_t words, uint32_t n, uint32_t answer[2])
+{
+    struct outcome mine = nothing_told, theirs = nothing_told;
+
+    mine.code = zv_alloc_best(arena, words, n, mine.fields);
+    theirs.code = plain_alloc_best(copy_of(arena), words, n, theirs.fields);
+    memcpy(answer, mine.fields, 2 * sizeof *answer);
+    return agreed("alloc_best", arena, words, &mine, &theirs);
+}
+
+/* Where the rover is afterwards counts as one more field. */
+static uint32_t both_alloc_next(uint32_t *arena, size_t words, struct zv_rover *rover, uint32_t n, uint32_t answer[2])
+{
+    struct outcome mine = nothing_told, theirs = nothing_told;
+    struct zv_rover copied = *rover;
+
+    mine.code = zv_alloc_next(arena, words, rover, n, mine.fields);
+    theirs.code = plain_alloc_next(copy_of(arena), words, &copied, n, theirs.fields);
+    memcpy(answer, mine.fields, 2 * sizeof *answer);
+    mine.fields[2] = rover->at;
+    theirs.fields[2] = copied.at;
+    return agreed("alloc_next", arena, words, &mine, &theirs);
+}
+
 static uint32_t both_free(uint32_t *arena, size_t words, uint32_t b)
 {
     struct outcome mine = nothing_told, theirs = nothing_told;
@@ -248,6 +272,6 @@ static uint32_t both_check(const uint8_t *spelled, size_t bytes)
 }
 
 const struct library both = {
-    both_start, both_alloc,  both_free,  both_resize, both_relocate, both_realloc,
-    both_size,  both_report, both_write, both_read,   both_check,
+    both_start,   both_alloc, both_alloc_best, both_alloc_next, both_free, both_resize, both_relocate,
+    both_realloc, both_size,  both_report,     both_write,      both_read, both_check,
 };

@@ -7,6 +7,8 @@
 struct library {
     uint32_t (*start)(uint32_t *arena, size_t words);
     uint32_t (*alloc)(uint32_t *arena, size_t words, uint32_t n, uint32_t answer[2]);
+    uint32_t (*alloc_best)(uint32_t *arena, size_t words, uint32_t n, uint32_t answer[2]);
+    uint32_t (*alloc_next)(uint32_t *arena, size_t words, struct zv_rover *rover, uint32_t n, uint32_t answer[2]);
     uint32_t (*free)(uint32_t *arena, size_t words, uint32_t b);
     uint32_t (*resize)(uint32_t *arena, size_t words, uint32_t b, uint32_t n, uint32_t answer[2]);
     uint32_t (*relocate)(uint32_t *arena, size_t words, uint32_t b, uint32_t n, uint32_t answer[2]);

@@ -35,6 +35,39 @@ static uint32_t make_pair(const struct library *library, uint32_t *arena, size_t
     return codes | library->free(arena, words, answer[ZV_BLOCK]);
 }
 
+static uint32_t make_best_refused(const struct library *library, uint32_t *arena, size_t words, struct part *part)
+{
+    uint32_t answer[2];
+
+    return library->alloc_best(arena, words, part->there, answer);
+}
+
+static uint32_t make_best_pair(const struct library *library, uint32_t *arena, size_t words, struct part *part)
+{
+    uint32_t answer[2];
+    uint32_t codes = library->alloc_best(arena, words, part->there, answer);
+
+    return codes | library->free(arena, words, answer[ZV_BLOCK]);
+}
+
+/* The rover is above all chunks, so that the search has to go round the whole list. */
+static uint32_t make_next_refused(const struct library *library, uint32_t *arena, size_t words, struct part *part)
+{
+    struct zv_rover rover = {(uint32_t)words};
+    uint32_t answer[2];
+
+    return library->alloc_next(arena, words, &rover, part->there, answer);
+}
+
+static uint32_t make_next_pair(const struct library *library, uint32_t *arena, size_t words, struct part *part)
+{
+    struct zv_rover rover = {(uint32_t)words};
+    uint32_t answer[2];
+    uint32_t codes = library->alloc_next(arena, words, &rover, part->there, answer);
+
+    return codes | library->free(arena, words, answer[ZV_BLOCK]);
+}
+
 static uint32_t make_kept_resize(const struct library *library, uint32_t *arena, size_t words, struct part *part)
 {
     uint32_t answer[2];

@@ -54,27 +54,51 @@ def replies_in(asked, got):
     return replies
 
 
-def go_together(block, resized, relocated, reallocated):
+def lengths_go_together(case, resized, relocated, reallocated):
     """Whether resize kept the block's number, relocate did not, and realloc did as the one or, after 8, the other."""
     heads = [struct.unpack_from("<2I", reply) for reply in (resized, relocated, reallocated)]
     codes = tuple(code for code, number in heads)
-    kept = codes[0] != model.DONE or heads[0][1] == block
-    moved = codes[1] != model.DONE or heads[1][1] != block
+    kept = codes[0] != model.DONE or heads[0][1] == case.block
+    moved = codes[1] != model.DONE or heads[1][1] != case.block
     due = relocated if codes[0] == model.WOULD_MOVE else resized
     return codes in cases.CODES_TOGETHER and kept and moved and reallocated == due
+
+
+def fits_go_together(case, first, best, following):
+    """Whether the fits were refused alike and the rover stayed; or done, each in a chunk and with a rover that can be.
+
+    No fit takes a lower chunk than first fit. Next fit takes the last words of the chunk where the rover is then, and
+    a chunk below the old rover only if that is first fit's.
+    """
+    heads = [struct.unpack_from("<4I", reply) for reply in (first, best, following)]
+    alike = following[:12] + bytes(4) + following[16:]
+    code, block, granted, rover = heads[2]
+    if tuple(head[0] for head in heads) not in cases.CODES_OF_FITS:
+        return False
+    if code != model.DONE:
+        return first == best == alike and rover == case.block
+    lowest = all(reply == first or head[1] > heads[0][1] for head, reply in zip(heads, (first, best, alike)))
+    at_chunk = rover < len(case.words) and rover + case.words[rover] == block + granted
+    return lowest and at_chunk and (rover >= case.block or alike == first)
+
+
+# What is held to each other, whatever the model answers: three calls, and how their replies to one case are judged.
+HELD_TOGETHER = [(cases.TOGETHER, lengths_go_together), (cases.FITS, fits_go_together)]
 
 
 def compare_together(asked, got):
     """Complains about replies to three calls asked together that do not go together, whatever the model answers."""
     replies = replies_in(asked, got)
-    for at in cases.asked_together(asked):
-        case, three = asked[at], replies[at:at + 3]
-        if not go_together(case.block, *three):
-            told = [struct.unpack_from("<3I", reply) for reply in three]
-            text = b"".join(map(cases.case_bytes, asked[at:at + 3]))
-            raise Difference(
-                f"cases {at + 1} to {at + 3}, resize, relocate and realloc b={case.block} n={case.asked} on the same"
-                f" {len(case.words)} words, do not go together word for word: code, block and granted are {told}", text)
+    for calls, go_together in HELD_TOGETHER:
+        for at in cases.asked_together(asked, calls):
+            case, three = asked[at], replies[at:at + 3]
+            if not go_together(case, *three):
+                names = ", ".join(map(cases.name_of, calls))
+                told = [struct.unpack_from("<4I", reply) for reply in three]
+                text = b"".join(map(cases.case_bytes, asked[at:at + 3]))
+                raise Difference(
+                    f"cases {at + 1} to {at + 3}, {names} with b={case.block} n={case.asked} on the same"
+                    f" {len(case.words)} words, do not go together: their codes and first fields are {told}", text)
 
 
 def run_lines(command, text, pieces=None, expected=None):

@@ -1,5 +1,5 @@
 -- Each of the calls that answer behaves: the one theorem that every call has.
-use mathlib.Core.Path.{_≡_, refl}
+use mathlib.Core.Path.{_≡_, refl, sym, ap}
 use mathlib.Core.List.{List}
 use Prim.Native.Nat.{ℕ}
 use Rattle.layout.specs.Reasons.{number}
@@ -11,7 +11,7 @@ use Rattle.rules.specs.Causes.{WriteRefused, ReadRefused}
 use Rattle.rules.specs.Behaves.{Behaves}
 use Rattle.rules.specs.Fits.{Policy, firstFit, bestFit, nextFit, Fitting}
 use Rattle.rules.proofs.Fits.{first-fitting, best-fitting, next-fitting}
-use Rattle.rules.proofs.CallCases.{Case, refuses, does, refused-unchanged, refused-zeros, start-case, alloc-by-case, free-case, size-case}
+use Rattle.rules.proofs.CallCases.{Case, refuses, does, refused-unchanged, refused-zeros, start-case, Allots, alloc-by-case, free-case, size-case}
 use Rattle.rules.proofs.CallCases.{report-case}
 use Rattle.rules.proofs.RegrantCases.{resize-case, relocate-case, realloc-case}
 use Rattle.rules.proofs.Given.{refused-for, done-unless, start-gives, alloc-by-gives, free-gives, resize-gives, relocate-gives, realloc-gives}
@@ -43,6 +43,18 @@ module _ (a : List ℕ) where
   -- alloc under any policy that is fitting
   pub alloc-by-behaves : (policy : Policy) → Fitting policy → (n : ℕ) → Behaves 2 a (AllocRefused a n) (allocBy policy a n)
   alloc-by-behaves policy fitting n = behaves (alloc-by-case policy fitting a n) (alloc-by-gives a policy fitting n) (allots-kept a n)
+
+  -- so under two of them it is refused in the same cases and for the same reasons
+  pub same-code : (policy policy′ : Policy) → Fitting policy → Fitting policy′ → (n : ℕ)
+      → allocBy policy a n .answer .code ≡ allocBy policy′ a n .answer .code
+  same-code policy policy′ fitting fitting′ n = go (alloc-by-case policy fitting a n) refl
+    where
+      go : {outcome : Outcome} → Case 2 a (AllocRefused a n) (Allots a n) outcome → allocBy policy a n ≡ outcome
+          → outcome .answer .code ≡ allocBy policy′ a n .answer .code
+      go (refuses why r) is = sym (alloc-by-gives a policy′ fitting′ n why r)
+      go (does d) is =
+          let done = ap (λ (outcome : Outcome). outcome .answer .code) is in
+          sym (alloc-by-behaves policy′ fitting′ n .done .1 (alloc-by-behaves policy fitting n .done .0 done))
 
   pub alloc-behaves : (n : ℕ) → Behaves 2 a (AllocRefused a n) (allocOn a n)
   alloc-behaves = alloc-by-behaves firstFit first-fitting

@@ -22,6 +22,8 @@ pub mod Frames
 pub mod Saying
 pub mod PictureCalls
 pub mod Calls
+pub mod Rovers
+pub mod ThreeBlocks
 pub mod ReportCounts
 pub mod Largest
 pub mod Shrinking
