@@ -15,11 +15,12 @@ use Rattle.rules.specs.Answers.{Outcome, success, refusal}
 use Rattle.rules.specs.Rooms.{Needed}
 use Rattle.rules.specs.Pictures.{said}
 use Rattle.rules.specs.Causes.{LawfulRequest, ReadRefused}
-use Rattle.rules.specs.Libraries.{Call, start, alloc, free, resize, relocate, realloc, size, view, report, write, read, ours}
+use Rattle.rules.specs.Fits.{Policies, AllFitting}
+use Rattle.rules.specs.Libraries.{Call, start, alloc, free, resize, relocate, realloc, size, view, report, write, read, libraryBy}
 use Rattle.layout.proofs.Round.{sound-lawful}
 use Rattle.rules.proofs.Gates.{request-needed}
 use Rattle.rules.proofs.Starting.{whole-lawful}
-use Rattle.rules.proofs.CallCases.{Case, refuses, does, Restarts, restarts, start-case, Allots, allots, alloc-case, Frees, frees, free-case, Measures}
+use Rattle.rules.proofs.CallCases.{Case, refuses, does, Restarts, restarts, start-case, Allots, allots, alloc-by-case, Frees, frees, free-case, Measures}
 use Rattle.rules.proofs.CallCases.{measures, size-case, Reports, reports, report-case}
 use Rattle.rules.proofs.RegrantCases.{Resizes, resizes, Relocates, moves, Regrants, in-place, elsewhere, resize-case, relocate-case, realloc-case}
 use Rattle.rules.proofs.PictureCalls.{Draws, draws, write-case, Takes, takes, read-case}
@@ -109,23 +110,25 @@ module _ (n : ℕ) (a : List ℕ) (ledger : Ledger) (g : Agrees n a ledger) wher
   read-noted text (refuses why r) = kept (refused-goes n a ledger (read text) 0 why g)
   read-noted text (does (takes ws s e d)) = renewed refl (picturedBlocks (said text)) refl (said-agrees n text ws s (e ∙ g .long) d)
 
-  pub call-noted : (c : Call) → CallNoted n a ledger c (ours c a)
-  call-noted start = kept (case-goes start g start-goes (start-case a))
-  call-noted (alloc w) = kept (case-goes (alloc w) g (alloc-goes w) (alloc-case a w))
-  call-noted (free b) = kept (case-goes (free b) g (free-goes b) (free-case a b))
-  call-noted (resize b w) = kept (case-goes (resize b w) g (resize-goes b w) (resize-case a b w))
-  call-noted (relocate b w) = kept (case-goes (relocate b w) g (relocate-goes b w) (relocate-case a b w))
-  call-noted (realloc b w) = kept (case-goes (realloc b w) g (realloc-goes b w) (realloc-case a b w))
-  call-noted (size b) = kept (case-goes (size b) g (size-goes b) (size-case a b))
-  call-noted (view b) = kept (unchanged-goes n a ledger g)
-  call-noted report = kept (case-goes report g report-goes (report-case a))
-  call-noted (write text) = kept (case-goes (write text) g (write-goes text) (write-case a text))
-  call-noted (read text) = read-noted text (read-case text a)
+  -- under any policies that are fitting
+  module _ (policies : Policies) (fitting : AllFitting policies) where
+    pub call-noted : (c : Call) → CallNoted n a ledger c ((libraryBy policies) c a)
+    call-noted start = kept (case-goes start g start-goes (start-case a))
+    call-noted (alloc fit w) = kept (case-goes (alloc fit w) g (alloc-goes w) (alloc-by-case (policies fit) (fitting fit) a w))
+    call-noted (free b) = kept (case-goes (free b) g (free-goes b) (free-case a b))
+    call-noted (resize b w) = kept (case-goes (resize b w) g (resize-goes b w) (resize-case a b w))
+    call-noted (relocate b w) = kept (case-goes (relocate b w) g (relocate-goes b w) (relocate-case a b w))
+    call-noted (realloc b w) = kept (case-goes (realloc b w) g (realloc-goes b w) (realloc-case a b w))
+    call-noted (size b) = kept (case-goes (size b) g (size-goes b) (size-case a b))
+    call-noted (view b) = kept (unchanged-goes n a ledger g)
+    call-noted report = kept (case-goes report g report-goes (report-case a))
+    call-noted (write text) = kept (case-goes (write text) g (write-goes text) (write-case a text))
+    call-noted (read text) = read-noted text (read-case text a)
 
-  -- either way the ledger agrees with the words
-  pub call-agrees : (c : Call) → Agrees n (ours c a .words) (ledgerAfter (call c) (ours c a .answer) ledger)
-  call-agrees c = go (call-noted c)
-    where
-      go : {outcome : Outcome} → CallNoted n a ledger c outcome → Agrees n (outcome .words) (ledgerAfter (call c) (outcome .answer) ledger)
-      go (kept goes) = goes .agrees
-      go (renewed z blocks p agrees) = rw (z, p) agrees
+    -- either way the ledger agrees with the words
+    pub call-agrees : (c : Call) → Agrees n ((libraryBy policies) c a .words) (ledgerAfter (call c) ((libraryBy policies) c a .answer) ledger)
+    call-agrees c = go (call-noted c)
+      where
+        go : {outcome : Outcome} → CallNoted n a ledger c outcome → Agrees n (outcome .words) (ledgerAfter (call c) (outcome .answer) ledger)
+        go (kept goes) = goes .agrees
+        go (renewed z blocks p agrees) = rw (z, p) agrees

@@ -17,6 +17,7 @@ use Rattle.rules.specs.Rules.{joined, copied}
 use Rattle.rules.specs.Pictures.{pictureOf, framesFrom, line, wordsIn, standingFrom, same, said}
 use Rattle.digits.specs.Digits.{upper, worth, glyph}
 use Rattle.rules.specs.Calls.{startOn, allocBy, freeOn, regrantBy, reportOn, writeOn, readOn}
+use Rattle.rules.specs.Fits.{first-fit, best-fit, next-fit}
 use Rattle.rules.specs.Libraries.{Call, start, alloc, free, resize, relocate, realloc, size, view, report, write as writePicture, read}
 use Rattle.rules.specs.Libraries.{ours}
 use Rattle.rules.specs.Batches.{Wanted, aCall, unknown, wanted, wantedIn, batchBy}
@@ -70,21 +71,21 @@ row c code values = (c, record { code = code; values = values })
 -- the rows after the start in which a call is made, each beside its line and its reply
 abbrev rows : List (Call × Answer)
 rows =
-    row (alloc 5) 0 (26 ∷ 6 ∷ [])  -- 020005: 0200001A0006
-    ∷ row (alloc 1) 0 (22 ∷ 2 ∷ [])  -- 020001: 020000160002
-    ∷ row (alloc 10) 0 (4 ∷ 16 ∷ [])  -- 02000A: 020000040010
+    row (alloc first-fit 5) 0 (26 ∷ 6 ∷ [])  -- 020005: 0200001A0006
+    ∷ row (alloc first-fit 1) 0 (22 ∷ 2 ∷ [])  -- 020001: 020000160002
+    ∷ row (alloc first-fit 10) 0 (4 ∷ 16 ∷ [])  -- 02000A: 020000040010
     ∷ row report 0 (0 ∷ 0 ∷ 3 ∷ 0 ∷ [])  -- 05: 05000000000000030000
     ∷ row (free 22) 0 []  -- 030016: 0300
     ∷ row (free 22) 3 []  -- 030016: 0303
-    ∷ row (alloc 4) 6 (0 ∷ 0 ∷ [])  -- 020004: 020600000000
+    ∷ row (alloc first-fit 4) 6 (0 ∷ 0 ∷ [])  -- 020004: 020600000000
     ∷ row (realloc 10 13) 3 (0 ∷ 0 ∷ [])  -- 04000A000D: 040300000000
     ∷ row report 0 (4 ∷ 2 ∷ 2 ∷ 1 ∷ [])  -- 05: 05000004000200020001
-    ∷ row (alloc 1) 0 (22 ∷ 2 ∷ [])  -- 020001: 020000160002
+    ∷ row (alloc first-fit 1) 0 (22 ∷ 2 ∷ [])  -- 020001: 020000160002
     ∷ row (realloc 26 7) 6 (0 ∷ 0 ∷ [])  -- 04001A0007: 040600000000
     ∷ row (free 10) 3 []  -- 03000A: 0303
-    ∷ row (alloc 11) 6 (0 ∷ 0 ∷ [])  -- 02000B: 020600000000
-    ∷ row (alloc 29) 5 (0 ∷ 0 ∷ [])  -- 02001D: 020500000000
-    ∷ row (alloc 0) 4 (0 ∷ 0 ∷ [])  -- 020000: 020400000000
+    ∷ row (alloc first-fit 11) 6 (0 ∷ 0 ∷ [])  -- 02000B: 020600000000
+    ∷ row (alloc first-fit 29) 5 (0 ∷ 0 ∷ [])  -- 02001D: 020500000000
+    ∷ row (alloc first-fit 0) 4 (0 ∷ 0 ∷ [])  -- 020000: 020400000000
     ∷ []
 
 abbrev rowCalls : List Call
@@ -121,7 +122,9 @@ unanswered kind b n = record { kind = kind; b = b; n = n; code = 99; block = 99;
 
 -- a call as a record of a batch, and an unknown kind for a call that no record asks for
 abbrev recordFor : Call → Request
-recordFor (alloc w) = unanswered 1 0 w
+recordFor (alloc first-fit w) = unanswered 1 0 w
+recordFor (alloc best-fit w) = unanswered 0 0 0
+recordFor (alloc (next-fit rover) w) = unanswered 0 0 0
 recordFor (free b) = unanswered 2 b 0
 recordFor (realloc b w) = unanswered 3 b w
 recordFor (resize b w) = unanswered 4 b w
@@ -200,7 +203,7 @@ heldState =
 
 unfoldable pub held : Run ours 32 heldState
 unfolding startOn allocBy arenaGate requestGate sound chunksOf walked walkFrom walk meet lowest written write header enter
-held = play freshRun (call (alloc 2) ∷ call (alloc 2) ∷ []) (tt, (tt, tt))
+held = play freshRun (call (alloc first-fit 2) ∷ call (alloc first-fit 2) ∷ []) (tt, (tt, tt))
 
 -- block 26 holds a 5 and a 7
 abbrev storedState : State

@@ -7,7 +7,8 @@ use lib.Dec.{eqb}
 use lib.ListN.{getD}
 use borrow.Author.Tests.{eqb-true}
 use Rattle.layout.proofs.Bools.{both}
-use Rattle.rules.specs.Libraries.{Library, ours}
+use Rattle.rules.specs.Fits.{Policies, AllFitting}
+use Rattle.rules.specs.Libraries.{Library, libraryBy}
 use Rattle.ledger.specs.Events.{Event, call, store}
 use Rattle.ledger.specs.Ledger.{Held}
 use Rattle.ledger.specs.Runs.{State, after, Run, next}
@@ -32,18 +33,19 @@ other-word (store c j w) b i old other = go (eqb b c && eqb i j) refl
     go true p = let r = both (eqb b c) (eqb i j) p in absurd (other w (rw (eqb-true b c (r .0), eqb-true i j (r .1))))
     go false p = refl
 
-pub stored-lasts : {n : ℕ} {s : State} {b i v : ℕ} → StoredLast ours n s b i v → Held (s .ledger) b i × (getD (s .words) (b + i) 0 ≡ v)
-stored-lasts {n} (just {s} run b i v allowed) = (allowed .0, store-there n (s .words) (s .ledger) (run-agrees run) b i v (allowed .0))
-stored-lasts (pictured s text run z b i held) = (held, read-shows text (s .words) z (b + i))
-stored-lasts {n} (still {s} {b} {i} {v} t event allowed unended uncut other) =
-    let (held, word) = stored-lasts t in
-    let (e, l, q, h) = held in
-    let kept = ⊎-elim (λ ended. absurd (unended (rw q at ended))) (λ k. k) (event-keeps n s (run-agrees (stored-run t)) event allowed e l) in
-    let then = still-held ours event s b i held unended uncut in
-    let (f, m, r, k) = then in (
-      then,
-      ap (λ (c : ℕ). getD (after ours event s .words) (c + i) 0) (sym r)
-          ∙ kept f m (r ∙ ap (numberAfter ours event s) (sym q)) i h k
-          ∙ other-word event (e .block) i _ (rw q other)
-          ∙ ap (λ (c : ℕ). getD (s .words) (c + i) 0) q ∙ word,
-    )
+module _ (policies : Policies) (fitting : AllFitting policies) where
+  pub stored-lasts : {n : ℕ} {s : State} {b i v : ℕ} → StoredLast (libraryBy policies) n s b i v → Held (s .ledger) b i × (getD (s .words) (b + i) 0 ≡ v)
+  stored-lasts {n} (just {s} run b i v allowed) = (allowed .0, store-there n (s .words) (s .ledger) (run-agrees policies fitting run) b i v (allowed .0))
+  stored-lasts (pictured s text run z b i held) = (held, read-shows text (s .words) z (b + i))
+  stored-lasts {n} (still {s} {b} {i} {v} t event allowed unended uncut other) =
+      let (held, word) = stored-lasts t in
+      let (e, l, q, h) = held in
+      let kept = ⊎-elim (λ ended. absurd (unended (rw q at ended))) (λ k. k) (event-keeps policies fitting n s (run-agrees policies fitting (stored-run t)) event allowed e l) in
+      let then = still-held (libraryBy policies) event s b i held unended uncut in
+      let (f, m, r, k) = then in (
+        then,
+        ap (λ (c : ℕ). getD (after (libraryBy policies) event s .words) (c + i) 0) (sym r)
+            ∙ kept f m (r ∙ ap (numberAfter (libraryBy policies) event s) (sym q)) i h k
+            ∙ other-word event (e .block) i _ (rw q other)
+            ∙ ap (λ (c : ℕ). getD (s .words) (c + i) 0) q ∙ word,
+      )

@@ -17,5 +17,6 @@ pub mod Lasting
 pub mod Demands
 pub mod GapsLeft
 pub mod Examples
+pub mod DemandThree
 pub mod Useless
 pub mod BatchRuns

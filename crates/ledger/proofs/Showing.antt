@@ -18,18 +18,19 @@ use Rattle.rules.specs.Pictures.{pictureLength}
 use Rattle.rules.specs.Calls.{freeOn, sizeOn, viewOn, reportOn, writeOn}
 use Rattle.rules.specs.Causes.{LawfulRequest, WriteRefused, no-length, unsound, short-text}
 use Rattle.rules.specs.Stands.{NoBlock}
-use Rattle.rules.specs.Libraries.{Call, start, alloc, free, resize, relocate, realloc, size, view, report, write, read, ours}
+use Rattle.rules.specs.Fits.{Policies, AllFitting}
+use Rattle.rules.specs.Libraries.{Call, start, alloc, free, resize, relocate, realloc, size, view, report, write, read, libraryBy}
 use Rattle.layout.proofs.Round.{sound-lawful}
 use Rattle.rules.proofs.Gates.{sound-gate}
 use Rattle.rules.proofs.Searches.{block-held}
-use Rattle.rules.proofs.CallCases.{Case, done-does, Allots, allots, alloc-case}
+use Rattle.rules.proofs.CallCases.{Case, done-does, Allots, allots, alloc-by-case}
 use Rattle.rules.proofs.Remainder.{cut-numbers}
 use Rattle.rules.proofs.Staying.{kept-numbers}
 use Rattle.rules.proofs.RegrantCases.{Resizes, resizes, Relocates, moves, Regrants, in-place, elsewhere, resize-case, relocate-case, realloc-case}
 use Rattle.rules.proofs.EmptyViews.{view-empty}
 use Rattle.rules.proofs.BlockNumbers.{resize-stays, relocate-moves}
 use Rattle.rules.proofs.Given.{arena-refused}
-use Rattle.rules.proofs.Calls.{start-behaves, alloc-behaves, free-behaves, resize-behaves, relocate-behaves, realloc-behaves, size-behaves}
+use Rattle.rules.proofs.Calls.{start-behaves, alloc-by-behaves, free-behaves, resize-behaves, relocate-behaves, realloc-behaves, size-behaves}
 use Rattle.rules.proofs.Calls.{report-behaves, write-behaves, read-behaves}
 use Rattle.rules.proofs.Pictures.{picture-length}
 use Rattle.rules.proofs.PictureCalls.{writes-sound}
@@ -41,56 +42,57 @@ use Rattle.ledger.proofs.Agreeing.{Agrees, chunked-block, agrees-laid, 
 
 -- ---- the reasons that an arena itself gives
 
--- a call that gives one of the first two reasons, and is no reading, has an unlawful length, or an arena that is not
--- sound
-gate-refused : (a : List ℕ) (c : Call) → ((text : List ℕ) → c ≢ read text)
-    → (ours c a .answer .code ≡ number Length → lawful (length a) ≡ false) × (ours c a .answer .code ≡ number Damaged → sound a ≡ false)
-gate-refused a start other = (
-  λ e. start-behaves a .refused Length .0 e .1,
-  λ e. absurd
-      (omega (arith, ap number (start-behaves a .refused Damaged .0 e .0))),
-)
-gate-refused a (alloc w) other = arena-refused a _ _ _ _ _ (λ why. alloc-behaves a w .refused why .0)
-gate-refused a (free b) other = arena-refused a _ _ _ _ _ (λ why. free-behaves a b .refused why .0)
-gate-refused a (resize b w) other = arena-refused a _ _ _ _ _ (λ why. resize-behaves a b w .refused why .0)
-gate-refused a (relocate b w) other = arena-refused a _ _ _ _ _ (λ why. relocate-behaves a b w .refused why .0)
-gate-refused a (realloc b w) other = arena-refused a _ _ _ _ _ (λ why. realloc-behaves a b w .refused why .0)
-gate-refused a (size b) other = arena-refused a _ _ _ _ _ (λ why. size-behaves a b .refused why .0)
-gate-refused a (view b) other = (λ e. absurd (omega arith), λ e. absurd (omega arith))
-gate-refused a report other = arena-refused a _ _ _ _ _ (λ why. report-behaves a .refused why .0)
-gate-refused a (write text) other = (
-  λ e. elim (write-behaves a text .refused Length .0 e) [ no-length l ↦ l ],
-  λ e. elim (write-behaves a text .refused Damaged .0 e) [ unsound l d ↦ d ],
-)
-gate-refused a (read text) other = absurd (other text refl)
+module _ (policies : Policies) (fitting : AllFitting policies) where
+  -- a call that gives one of the first two reasons, and is no reading, has an unlawful length, or an arena that is not
+  -- sound
+  gate-refused : (a : List ℕ) (c : Call) → ((text : List ℕ) → c ≢ read text)
+      → ((libraryBy policies) c a .answer .code ≡ number Length → lawful (length a) ≡ false) × ((libraryBy policies) c a .answer .code ≡ number Damaged → sound a ≡ false)
+  gate-refused a start other = (
+    λ e. start-behaves a .refused Length .0 e .1,
+    λ e. absurd
+        (omega (arith, ap number (start-behaves a .refused Damaged .0 e .0))),
+  )
+  gate-refused a (alloc fit w) other = arena-refused a _ _ _ _ _ (λ why. alloc-by-behaves a (policies fit) (fitting fit) w .refused why .0)
+  gate-refused a (free b) other = arena-refused a _ _ _ _ _ (λ why. free-behaves a b .refused why .0)
+  gate-refused a (resize b w) other = arena-refused a _ _ _ _ _ (λ why. resize-behaves a b w .refused why .0)
+  gate-refused a (relocate b w) other = arena-refused a _ _ _ _ _ (λ why. relocate-behaves a b w .refused why .0)
+  gate-refused a (realloc b w) other = arena-refused a _ _ _ _ _ (λ why. realloc-behaves a b w .refused why .0)
+  gate-refused a (size b) other = arena-refused a _ _ _ _ _ (λ why. size-behaves a b .refused why .0)
+  gate-refused a (view b) other = (λ e. absurd (omega arith), λ e. absurd (omega arith))
+  gate-refused a report other = arena-refused a _ _ _ _ _ (λ why. report-behaves a .refused why .0)
+  gate-refused a (write text) other = (
+    λ e. elim (write-behaves a text .refused Length .0 e) [ no-length l ↦ l ],
+    λ e. elim (write-behaves a text .refused Damaged .0 e) [ unsound l d ↦ d ],
+  )
+  gate-refused a (read text) other = absurd (other text refl)
 
--- a call that would move its block is a resize, and to a number of words that may be asked for
-would-move : (a : List ℕ) (c : Call) → ours c a .answer .code ≡ number WouldMove → (b : ℕ) × (w : ℕ) × (c ≡ resize b w) × LawfulRequest (length a) w
-would-move a start e = absurd (omega (arith, ap number (start-behaves a .refused WouldMove .0 e .0)))
-would-move a (alloc w) e = absurd (alloc-behaves a w .refused WouldMove .0 e .1)
-would-move a (free b) e = absurd (free-behaves a b .refused WouldMove .0 e .1)
-would-move a (resize b w) e = (b, w, refl, resize-behaves a b w .refused WouldMove .0 e .1 .0)
-would-move a (relocate b w) e = absurd (relocate-behaves a b w .refused WouldMove .0 e .1)
-would-move a (realloc b w) e = absurd (realloc-behaves a b w .refused WouldMove .0 e .1)
-would-move a (size b) e = absurd (size-behaves a b .refused WouldMove .0 e .1)
-would-move a (view b) e = absurd (omega arith)
-would-move a report e = absurd (report-behaves a .refused WouldMove .0 e .1)
-would-move a (write text) e = elim (write-behaves a text .refused WouldMove .0 e) [ ]
-would-move a (read text) e = elim (read-behaves a text .refused WouldMove .0 e) [ ]
+  -- a call that would move its block is a resize, and to a number of words that may be asked for
+  would-move : (a : List ℕ) (c : Call) → (libraryBy policies) c a .answer .code ≡ number WouldMove → (b : ℕ) × (w : ℕ) × (c ≡ resize b w) × LawfulRequest (length a) w
+  would-move a start e = absurd (omega (arith, ap number (start-behaves a .refused WouldMove .0 e .0)))
+  would-move a (alloc fit w) e = absurd (alloc-by-behaves a (policies fit) (fitting fit) w .refused WouldMove .0 e .1)
+  would-move a (free b) e = absurd (free-behaves a b .refused WouldMove .0 e .1)
+  would-move a (resize b w) e = (b, w, refl, resize-behaves a b w .refused WouldMove .0 e .1 .0)
+  would-move a (relocate b w) e = absurd (relocate-behaves a b w .refused WouldMove .0 e .1)
+  would-move a (realloc b w) e = absurd (realloc-behaves a b w .refused WouldMove .0 e .1)
+  would-move a (size b) e = absurd (size-behaves a b .refused WouldMove .0 e .1)
+  would-move a (view b) e = absurd (omega arith)
+  would-move a report e = absurd (report-behaves a .refused WouldMove .0 e .1)
+  would-move a (write text) e = elim (write-behaves a text .refused WouldMove .0 e) [ ]
+  would-move a (read text) e = elim (read-behaves a text .refused WouldMove .0 e) [ ]
 
--- a call that finds a text too short is a writing
-short-of-text : (a : List ℕ) (c : Call) → ours c a .answer .code ≡ number TextRoom → (text : List ℕ) × (c ≡ write text)
-short-of-text a start e = absurd (omega (arith, ap number (start-behaves a .refused TextRoom .0 e .0)))
-short-of-text a (alloc w) e = absurd (alloc-behaves a w .refused TextRoom .0 e)
-short-of-text a (free b) e = absurd (free-behaves a b .refused TextRoom .0 e)
-short-of-text a (resize b w) e = absurd (resize-behaves a b w .refused TextRoom .0 e)
-short-of-text a (relocate b w) e = absurd (relocate-behaves a b w .refused TextRoom .0 e)
-short-of-text a (realloc b w) e = absurd (realloc-behaves a b w .refused TextRoom .0 e)
-short-of-text a (size b) e = absurd (size-behaves a b .refused TextRoom .0 e)
-short-of-text a (view b) e = absurd (omega arith)
-short-of-text a report e = absurd (report-behaves a .refused TextRoom .0 e)
-short-of-text a (write text) e = (text, refl)
-short-of-text a (read text) e = elim (read-behaves a text .refused TextRoom .0 e) [ ]
+  -- a call that finds a text too short is a writing
+  short-of-text : (a : List ℕ) (c : Call) → (libraryBy policies) c a .answer .code ≡ number TextRoom → (text : List ℕ) × (c ≡ write text)
+  short-of-text a start e = absurd (omega (arith, ap number (start-behaves a .refused TextRoom .0 e .0)))
+  short-of-text a (alloc fit w) e = absurd (alloc-by-behaves a (policies fit) (fitting fit) w .refused TextRoom .0 e)
+  short-of-text a (free b) e = absurd (free-behaves a b .refused TextRoom .0 e)
+  short-of-text a (resize b w) e = absurd (resize-behaves a b w .refused TextRoom .0 e)
+  short-of-text a (relocate b w) e = absurd (relocate-behaves a b w .refused TextRoom .0 e)
+  short-of-text a (realloc b w) e = absurd (realloc-behaves a b w .refused TextRoom .0 e)
+  short-of-text a (size b) e = absurd (size-behaves a b .refused TextRoom .0 e)
+  short-of-text a (view b) e = absurd (omega arith)
+  short-of-text a report e = absurd (report-behaves a .refused TextRoom .0 e)
+  short-of-text a (write text) e = (text, refl)
+  short-of-text a (read text) e = elim (read-behaves a text .refused TextRoom .0 e) [ ]
 
 -- ---- what is granted
 
@@ -181,17 +183,17 @@ module _ (n : ℕ) (a : List ℕ) (ledger : Ledger) (agrees : Agrees n a ledger)
       lacks : length text < pictureLength (length a) → WriteRefused a text TextRoom
       lacks l = short-text (agrees .is-sound) (omega (arith, picture-length a))
 
-  pub tells : Tells ours a ledger
-  tells =
+  pub tells : (policies : Policies) → AllFitting policies → Tells (libraryBy policies) a ledger
+  tells policies fitting =
       record {
-        never-length = λ c other e. true≢false (sym (sound-lawful a (agrees .is-sound)) ∙ gate-refused a c other .0 e);
-        never-damaged = λ c other e. true≢false (sym (agrees .is-sound) ∙ gate-refused a c other .1 e);
-        alloc-grants = λ w. need-granted w (alloc-grants a w) (alloc-case a w);
+        never-length = λ c other e. true≢false (sym (sound-lawful a (agrees .is-sound)) ∙ gate-refused policies fitting a c other .0 e);
+        never-damaged = λ c other e. true≢false (sym (agrees .is-sound) ∙ gate-refused policies fitting a c other .1 e);
+        alloc-grants = λ fit w. need-granted w (alloc-grants a w) (alloc-by-case (policies fit) (fitting fit) a w);
         free-listed = freed;
         resize-grants = λ b w. need-granted w (resize-grants a b w) (resize-case a b w);
         resize-stays = resize-stays a;
         resize-never-full = λ b w e. resize-behaves a b w .refused NoRoom .0 e .1;
-        only-resize-would-move = would-move a;
+        only-resize-would-move = would-move policies fitting a;
         relocate-grants = λ b w. need-granted w (relocate-grants a b w) (relocate-case a b w);
         relocate-moves = relocate-moves a;
         realloc-grants = λ b w. need-granted w (realloc-grants a b w) (realloc-case a b w);
@@ -206,7 +208,7 @@ module _ (n : ℕ) (a : List ℕ) (ledger : Ledger) (agrees : Agrees n a ledger)
         report-done = ap (λ (answer : Answer). answer .code) reported;
         live-blocks = rw (reported, agrees .lists) (blocks-count firstChunk (chunksOf a));
         write-room = text-room;
-        only-write-text-room = short-of-text a;
+        only-write-text-room = short-of-text policies fitting a;
         write-length = λ text z.
             writes-sound a text (agrees .is-sound) (omega (arith, picture-length a, text-room text .done .0 z))
             ∙ ap (λ (long : ℕ). success (long ∷ [])) (picture-length a);

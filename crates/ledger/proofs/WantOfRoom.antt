@@ -17,7 +17,8 @@ use Rattle.layout.specs.declared.Reason.the-variants.{NoRoom, WouldMove}
 use Rattle.layout.proofs.Holds.{total-append}
 use Rattle.rules.specs.Rooms.{roomWords}
 use Rattle.rules.specs.Answers.{Answer, Outcome, success}
-use Rattle.rules.specs.Calls.{allocOn, resizeOn, relocateOn, reallocOn}
+use Rattle.rules.specs.Fits.{Policy, Fitting}
+use Rattle.rules.specs.Calls.{allocBy, resizeOn, relocateOn, reallocOn}
 use Rattle.rules.specs.Stands.{NoGap}
 use Rattle.rules.specs.Causes.{LawfulRequest, Grounds, Short, ShortBlock, RegrantRefused}
 use Rattle.rules.proofs.Joining.{spaced-after}
@@ -25,7 +26,7 @@ use Rattle.rules.proofs.Searches.{BlockAt, block-sizes, one-block, no-gap-short
 use Rattle.rules.proofs.Rooms.{short-room}
 use Rattle.rules.proofs.Shrinking.{resize-hands-over, realloc-hands-over}
 use Rattle.rules.proofs.Given.{only-last}
-use Rattle.rules.proofs.Calls.{alloc-behaves, resize-behaves, relocate-behaves, realloc-behaves}
+use Rattle.rules.proofs.Calls.{alloc-by-behaves, resize-behaves, relocate-behaves, realloc-behaves}
 use Rattle.ledger.specs.Ledger.{Entry, Ledger, Done, Listed, ends}
 use Rattle.ledger.specs.Gaps.{gapFrom, gaps, EachShorter, RoomShorter}
 use Rattle.ledger.specs.Demands.{RefusedWhen}
@@ -94,12 +95,15 @@ module _ (n : ℕ) (a : List ℕ) (ledger : Ledger) (agrees : Agrees n a ledger)
 
   -- ---- the calls
 
-  pub alloc-room : (w : ℕ) → LawfulRequest n w → RefusedWhen NoRoom (EachShorter (need w) (gaps n ledger)) (allocOn a w .answer)
-  alloc-room w r =
+  -- alloc under any policy that is fitting
+  pub alloc-room : (policy : Policy) → Fitting policy → (w : ℕ) → LawfulRequest n w
+      → RefusedWhen NoRoom (EachShorter (need w) (gaps n ledger)) (allocBy policy a w .answer)
+  alloc-room policy fitting w r =
+      let behaves = alloc-by-behaves a policy fitting w in
       let gap = no-gap w in
       let request = lawful-request w r in
-      refused-when a _ _ _ _ _ (agrees .is-sound) (λ h. h) (λ z. omega arith) (λ m. omega arith) _ _ _ (alloc-behaves a w .refused NoRoom)
-      (alloc-behaves a w .done)
+      refused-when a _ _ _ _ _ (agrees .is-sound) (λ h. h) (λ z. omega arith) (λ m. omega arith) _ _ _ (behaves .refused NoRoom)
+      (behaves .done)
       (λ h. gap .0 (h .1)) (λ h. absurd h) (λ short. (agrees .is-sound, (request, gap .1 short)))
 
   -- a call that grants a block of the ledger anew

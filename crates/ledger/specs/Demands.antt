@@ -16,6 +16,7 @@ use Rattle.rules.specs.Causes.{LawfulRequest}
 use Rattle.rules.specs.Crumbs.{crumb, crumbs}
 use Rattle.rules.specs.Pictures.{pictureLength, Says}
 use Rattle.rules.specs.declared.Request.{Request}
+use Rattle.rules.specs.Fits.{Fit}
 use Rattle.rules.specs.Libraries.{Call, start, alloc, free, resize, relocate, realloc, size, view, report, write, read, Library}
 use Rattle.ledger.specs.Events.{Event, call}
 use Rattle.ledger.specs.Ledger.{Entry, Ledger, told, Done, Listed, Unlisted, begins, ends, heldWords}
@@ -181,7 +182,7 @@ module _ (library : Library) where
   pub record Tells (a : List ℕ) (ledger : Ledger) : Type 0 where
     pub never-length : (c : Call) → ((text : List ℕ) → c ≢ read text) → library c a .answer .code ≢ number Length
     pub never-damaged : (c : Call) → ((text : List ℕ) → c ≢ read text) → library c a .answer .code ≢ number Damaged
-    pub alloc-grants : GrantsNeed alloc a
+    pub alloc-grants : (fit : Fit) → GrantsNeed (alloc fit) a
     pub free-known : NeedsBlock free a ledger
     pub free-listed : (e : Entry) → Listed ledger e → Done (library (free (e .block)) a .answer)
     pub resize-known : (w : ℕ) → NeedsBlock (λ b. resize b w) a ledger
@@ -209,3 +210,32 @@ module _ (library : Library) where
   -- the answers tell it in every run
   abbrev pub Known : Type 0
   Known = (n : ℕ) (s : State) → Run library n s → Tells (s .words) (s .ledger)
+
+  -- demand 3, whole, with what items 1 to 7 ask of it
+  pub record DemandThree : Type 0 where
+    pub starts : Starts
+    pub receives : Receives
+    pub lengths : Lengths
+    pub apart : Apart
+    pub inside : Inside
+    pub keeps : Keeps
+    pub lasts : Lasts
+    pub sums : Sums
+    pub room-for-alloc : (fit : Fit) → RoomForAlloc (alloc fit)
+    pub room-for-realloc : RoomForRealloc realloc
+    pub room-for-resize : RoomForResize resize
+    pub room-for-relocate : RoomForRelocate relocate
+    pub resize-to-need : ShrinksToNeed resize
+    pub realloc-to-need : ShrinksToNeed realloc
+    pub crumbs-after-alloc : (fit : Fit) (w : ℕ) → NoMoreCrumbs (alloc fit w)
+    pub crumbs-after-resize : (b w : ℕ) → NoMoreCrumbs (resize b w)
+    pub realloc-stays-without-crumb : (w : ℕ) → StaysWithoutCrumb (λ b. realloc b w)
+    pub crumbs-after-free : OneCrumbMore free
+    pub crumbs-after-relocate : (w : ℕ) → OneCrumbMore (λ b. relocate b w)
+    pub crumbs-after-realloc : (w : ℕ) → OneCrumbMore (λ b. realloc b w)
+    pub alloc-need-or-gap : (fit : Fit) → NeedOrGap (alloc fit)
+    pub resize-need-or-room : NeedOrRoom resize
+    pub realloc-need-or-room : NeedOrRoom realloc
+    pub same-as-singly : SameAsSingly
+    pub runs-hold-batches : RunsHoldBatches
+    pub known : Known

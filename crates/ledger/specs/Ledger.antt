@@ -64,7 +64,7 @@ pub data Effect : Type 0 where
 
 abbrev pub effect : Event → Effect
 effect (call start) = renews []
-effect (call (alloc w)) = grants
+effect (call (alloc fit w)) = grants
 effect (call (free b)) = frees b
 effect (call (resize b w)) = regrants b
 effect (call (relocate b w)) = regrants b

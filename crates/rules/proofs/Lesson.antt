@@ -171,26 +171,26 @@ one-start (m ∷ pre) k post (m′ ∷ pre′) l post′ z same starts =
 module _ (policy : Policy) (fitting : Fitting policy) (Is : List Chunk → ℕ → ℕ → ℕ → Type 0)
     (is : (need : ℕ) (ks pre : List Chunk) (s : ℕ) (post : List Chunk) → policy need ks ≡ at pre (free s) post → Is ks need (firstChunk + total pre) s)
     (one : (ks : List Chunk) (need c s d t : ℕ) → GapFrom ks need c s → Is ks need c s → GapFrom ks need d t → Is ks need d t → c ≡ d)
-    where
-  exactly : (a : List ℕ) → sound a ≡ true → (need : ℕ) (pre : List Chunk) (s : ℕ) (post : List Chunk)
-      → (policy need (chunksOf a) ≡ at pre (free s) post) ↔ (GapIn (chunksOf a) need pre s post × Is (chunksOf a) need (firstChunk + total pre) s)
-  exactly a e need pre s post = (λ q. (gap-of q, is need (chunksOf a) pre s post q), λ (gap, has). go (fitting need (chunksOf a)) refl gap has)
-    where
-      gap-of : policy need (chunksOf a) ≡ at pre (free s) post → GapIn (chunksOf a) need pre s post
-      gap-of q = told (fitting need (chunksOf a)) q
-        where
-          told : {spot : Spot} → Picks (chunksOf a) need spot → spot ≡ at pre (free s) post → GapIn (chunksOf a) need pre s post
-          told (no-gap none) p = absurd (let z : _≡_ {A = ℕ} 0 1 = cc in omega arith)
-          told (a-gap pre′ t post′ gap) p =
-              let before : pre′ ≡ pre = cc in let sized : t ≡ s = cc in let after : post′ ≡ post = cc in
-              rw (before, sized, after) at gap
+  where
+    exactly : (a : List ℕ) → sound a ≡ true → (need : ℕ) (pre : List Chunk) (s : ℕ) (post : List Chunk)
+        → (policy need (chunksOf a) ≡ at pre (free s) post) ↔ (GapIn (chunksOf a) need pre s post × Is (chunksOf a) need (firstChunk + total pre) s)
+    exactly a e need pre s post = (λ q. (gap-of q, is need (chunksOf a) pre s post q), λ (gap, has). go (fitting need (chunksOf a)) refl gap has)
+      where
+        gap-of : policy need (chunksOf a) ≡ at pre (free s) post → GapIn (chunksOf a) need pre s post
+        gap-of q = told (fitting need (chunksOf a)) q
+          where
+            told : {spot : Spot} → Picks (chunksOf a) need spot → spot ≡ at pre (free s) post → GapIn (chunksOf a) need pre s post
+            told (no-gap none) p = absurd (let z : _≡_ {A = ℕ} 0 1 = cc in omega arith)
+            told (a-gap pre′ t post′ gap) p =
+                let before : pre′ ≡ pre = cc in let sized : t ≡ s = cc in let after : post′ ≡ post = cc in
+                rw (before, sized, after) at gap
 
-      go : {spot : Spot} → Picks (chunksOf a) need spot → policy need (chunksOf a) ≡ spot → GapIn (chunksOf a) need pre s post
-          → Is (chunksOf a) need (firstChunk + total pre) s → spot ≡ at pre (free s) post
-      go (no-gap none) q gap has = absurd (none pre s post gap)
-      go (a-gap pre′ t post′ gap′) q gap has =
-          let same = one (chunksOf a) need _ t _ s (pre′, post′, gap′, refl) (is need (chunksOf a) pre′ t post′ q) (pre, post, gap, refl) has in
-          one-start pre′ (free t) post′ pre (free s) post (rw (gap′ .0) at (sound-chunks a e .law .sizes)) (sym (gap′ .0) ∙ gap .0) (omega arith)
+        go : {spot : Spot} → Picks (chunksOf a) need spot → policy need (chunksOf a) ≡ spot → GapIn (chunksOf a) need pre s post
+            → Is (chunksOf a) need (firstChunk + total pre) s → spot ≡ at pre (free s) post
+        go (no-gap none) q gap has = absurd (none pre s post gap)
+        go (a-gap pre′ t post′ gap′) q gap has =
+            let same = one (chunksOf a) need _ t _ s (pre′, post′, gap′, refl) (is need (chunksOf a) pre′ t post′ q) (pre, post, gap, refl) has in
+            one-start pre′ (free t) post′ pre (free s) post (rw (gap′ .0) at (sound-chunks a e .law .sizes)) (sym (gap′ .0) ∙ gap .0) (omega arith)
 
 module _ (a : List ℕ) (e : sound a ≡ true) (need : ℕ) (pre : List Chunk) (s : ℕ) (post : List Chunk) where
   pub first-exactly : (firstFit need (chunksOf a) ≡ at pre (free s) post)

@@ -1,0 +1,42 @@
+-- Demand 3, whole: of our calls under any policies that are fitting, and so of our calls.
+use Rattle.rules.specs.Fits.{Policies, policyOf, AllFitting}
+use Rattle.rules.specs.Libraries.{libraryBy, ours}
+use Rattle.rules.proofs.Fits.{all-fitting}
+use Rattle.ledger.specs.Demands.{DemandThree}
+use Rattle.ledger.proofs.Demands as demands
+use Rattle.ledger.proofs.GapsLeft as gaps
+use Rattle.ledger.proofs.BatchRuns as batches
+
+pub demand-three-by : (policies : Policies) → AllFitting policies → DemandThree (libraryBy policies)
+demand-three-by policies fitting =
+    record {
+      starts = demands.starts policies fitting;
+      receives = demands.receives policies fitting;
+      lengths = demands.lengths policies fitting;
+      apart = demands.apart policies fitting;
+      inside = demands.inside policies fitting;
+      keeps = demands.keeps policies fitting;
+      lasts = demands.lasts policies fitting;
+      sums = demands.sums policies fitting;
+      room-for-alloc = demands.room-for-alloc policies fitting;
+      room-for-realloc = demands.room-for-realloc policies fitting;
+      room-for-resize = demands.room-for-resize policies fitting;
+      room-for-relocate = demands.room-for-relocate policies fitting;
+      resize-to-need = demands.resize-to-need policies fitting;
+      realloc-to-need = demands.realloc-to-need policies fitting;
+      crumbs-after-alloc = gaps.crumbs-after-alloc policies fitting;
+      crumbs-after-resize = gaps.crumbs-after-resize policies fitting;
+      realloc-stays-without-crumb = gaps.realloc-stays-without-crumb policies fitting;
+      crumbs-after-free = gaps.crumbs-after-free policies fitting;
+      crumbs-after-relocate = gaps.crumbs-after-relocate policies fitting;
+      crumbs-after-realloc = gaps.crumbs-after-realloc policies fitting;
+      alloc-need-or-gap = gaps.alloc-need-or-gap policies fitting;
+      resize-need-or-room = gaps.resize-need-or-room policies fitting;
+      realloc-need-or-room = gaps.realloc-need-or-room policies fitting;
+      same-as-singly = batches.same-as-singly (libraryBy policies);
+      runs-hold-batches = batches.runs-hold-batches (libraryBy policies);
+      known = demands.known policies fitting;
+    }
+
+pub demand-three : DemandThree ours
+demand-three = demand-three-by policyOf all-fitting
