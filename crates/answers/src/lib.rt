@@ -10,10 +10,16 @@ pub enum Finish {
     Refused(Reason),
 }
 
-// What alloc, resize, relocate and realloc answer.
+// What alloc, alloc_best, resize, relocate and realloc answer.
 pub enum Granted {
     Block { block: u32, granted: u32 },
     Refused(Reason),
+}
+
+// What alloc_next answers: what alloc does, and the rover afterwards.
+pub struct Roved {
+    pub granted: Granted,
+    pub rover: u32,
 }
 
 // What size answers: the granted words.

@@ -3,16 +3,18 @@
 pub use answers::Finish;
 pub use answers::Granted;
 pub use answers::Reported;
+pub use answers::Roved;
 pub use answers::Sized;
-use layout::Gate;
 use layout::Reason;
 use layout::wide;
+use passes::fits;
+use targets::Asked;
 use targets::Located;
 use targets::Target;
 ghost use mathlib.Core.Path.{_≡_};
 ghost use denote.Ref.{ptr};
 ghost use Rattle.rules.specs.Answers.{Gives};
-ghost use Rattle.rules.specs.Calls.{startOn, allocOn, freeOn, resizeOn, relocateOn, reallocOn, sizeOn, reportOn};
+ghost use Rattle.rules.specs.Calls.{startOn, allocOn, allocBestOn, Roves, freeOn, resizeOn, relocateOn, reallocOn, sizeOn, reportOn};
 ghost use Rattle.answers.specs.Readings.{finishNumbers, grantedNumbers, sizedNumbers, reportedNumbers};
 ghost use Rattle.arena.specs.Views.{Views};
 
@@ -29,20 +31,54 @@ pub fn start(a: &mut [u32]) -> Finish
     Finish::Refused(Reason::Length)
 }
 
-// Grants a block of at least `n` words from the lowest free chunk that fits.
+// Grants a block of at least `n` words by first fit: from the lowest free chunk that fits.
 pub fn alloc(a: &mut [u32], n: u32) -> Granted
     ensures { λ r. ⌜ Gives (allocOn (now (a .entry)) n) (grantedNumbers r) (now (a .exit)) ⌝ }
 {
-    let arena = walk::check_arena(a);
-    if let Gate::Shut(why) = arena {
-        return Granted::Refused(why);
+    let asked = targets::ask(a, n);
+    match asked {
+        Asked::Need(need) => {
+            let place = fits::first_fit(a, need);
+            targets::grant(a, place, need)
+        }
+        Asked::Refused(why) => Granted::Refused(why),
     }
-    let request = layout::check_request(a.len(), wide(n));
-    if let Gate::Shut(why) = request {
-        return Granted::Refused(why);
+}
+
+// Grants a block of at least `n` words by best fit: from the smallest free chunk that fits, the lowest of equals.
+pub fn alloc_best(a: &mut [u32], n: u32) -> Granted
+    ensures { λ r. ⌜ Gives (allocBestOn (now (a .entry)) n) (grantedNumbers r) (now (a .exit)) ⌝ }
+{
+    let asked = targets::ask(a, n);
+    match asked {
+        Asked::Need(need) => {
+            let place = fits::best_fit(a, need);
+            targets::grant(a, place, need)
+        }
+        Asked::Refused(why) => Granted::Refused(why),
     }
-    let way = ways::allot(a, layout::need(wide(n)));
-    targets::answer(way, Reason::NoRoom)
+}
+
+// Grants a block of at least `n` words by next fit: from the lowest free chunk that fits from word `rover` on; once
+// round, from the lowest of all. The rover moves to the start of the chunk that was found.
+pub fn alloc_next(a: &mut [u32], rover: u32, n: u32) -> Roved
+    ensures { λ r. ⌜ Roves (now (a .entry)) rover n (grantedNumbers (r .granted)) (now (a .exit)) (r .rover) ⌝ }
+{
+    let asked = targets::ask(a, n);
+    match asked {
+        Asked::Need(need) => {
+            let place = fits::next_fit(a, wide(rover), need);
+            let moved = targets::start_of(place, rover);
+            Roved {
+                granted: targets::grant(a, place, need),
+                rover: moved,
+            }
+        }
+        Asked::Refused(why) => Roved {
+            granted: Granted::Refused(why),
+            rover,
+        },
+    }
 }
 
 // Frees block `b`.

@@ -1,4 +1,4 @@
--- What the two searches found: the lowest free chunk that fits a need, and the block that a number names.
+-- What the searches found: the free chunk that was picked for a need, and the block that a number names.
 use mathlib.Core.Path.{_≡_, refl}
 use mathlib.Core.Bool.{true}
 use mathlib.Core.List.{List}
@@ -7,27 +7,24 @@ use native.Mathlib.Omega.{arith}
 use Rattle.layout.specs.Numbers.{firstChunk, headerWords}
 use Rattle.layout.specs.Chunks.{Chunk, free, live, total}
 use Rattle.layout.specs.Walk.{sound, chunksOf}
-use Rattle.rules.specs.Spots.{Spot, nowhere, at, firstFit, held}
-use Rattle.rules.proofs.Searches.{BlockSearch, no-block, a-block, block-search, GapSearch, no-gap, a-gap, gap-search}
+use Rattle.rules.specs.Spots.{Spot, nowhere, at, lowest, held}
+use Rattle.rules.specs.Fits.{fitsFrom, orElseAt, firstFit, nextFit, Picks, no-gap, a-gap}
+use Rattle.rules.proofs.Searches.{BlockSearch, no-block, a-block, block-search}
 use Rattle.passes.specs.Places.{placeOf, Placed}
 use Rattle.passes.specs.declared.places.Place.the-variants.{At, Nowhere}
 
--- the lowest free chunk that fits starts at `chunk`
-abbrev pub FoundGap : List ℕ → ℕ → ℕ → ℕ → Type 0
-FoundGap a need link chunk =
-    (pre : List Chunk) × (s : ℕ) × (post : List Chunk) × (firstFit need (chunksOf a) ≡ at pre (free s) post) × Placed a pre (free s) post link chunk
-    × (need ≤ s)
+-- a spot is that of the free chunk which starts at `chunk`, and has the need
+abbrev pub FoundGap : Spot → List ℕ → ℕ → ℕ → ℕ → Type 0
+FoundGap spot a need link chunk =
+    (pre : List Chunk) × (s : ℕ) × (post : List Chunk) × (spot ≡ at pre (free s) post) × Placed a pre (free s) post link chunk × (need ≤ s)
 
-pub found-gap : (a : List ℕ) (need link chunk : ℕ) → sound a ≡ true → At link chunk ≡ placeOf (firstFit need (chunksOf a))
-    → FoundGap a need link chunk
+pub found-gap : (a : List ℕ) (need : ℕ) (spot : Spot) → Picks (chunksOf a) need spot → (link chunk : ℕ) → sound a ≡ true
+    → At link chunk ≡ placeOf spot → FoundGap spot a need link chunk
 unfolding placeOf
-found-gap a need link chunk e q = go (gap-search a need) refl q
-  where
-    go : {spot : Spot} → GapSearch a need spot → firstFit need (chunksOf a) ≡ spot → At link chunk ≡ placeOf spot → FoundGap a need link chunk
-    go (no-gap h) is p = absurd (let z : _≡_ {A = ℕ} 0 1 = cc in omega arith)
-    go (a-gap pre s post (same, enough)) is p =
-        let c : chunk ≡ firstChunk + total pre = cc in
-        (pre, s, post, is, record { is-sound = e; stands = record { same = same; number-is = omega arith }; link-is = cc }, enough)
+found-gap a need spot (no-gap h) link chunk e p = absurd (let z : _≡_ {A = ℕ} 0 1 = cc in omega arith)
+found-gap a need spot (a-gap pre s post (same, enough)) link chunk e p =
+    let c : chunk ≡ firstChunk + total pre = cc in
+    (pre, s, post, refl, record { is-sound = e; stands = record { same = same; number-is = omega arith }; link-is = cc }, enough)
 
 -- block `b` is the live chunk that starts at `chunk`
 abbrev pub FoundBlock : List ℕ → ℕ → ℕ → ℕ → Type 0
@@ -50,3 +47,20 @@ pub found-nowhere : (spot : Spot) → Nowhere ≡ placeOf spot → spot ≡ nowh
 unfolding placeOf
 found-nowhere nowhere e = refl
 found-nowhere (at pre k post) e = cc
+
+-- ---- next fit
+
+module _ (rover need : ℕ) (ks : List Chunk) where
+  -- from the rover on a chunk was found
+  pub found-from-rover : (link chunk : ℕ) → At link chunk ≡ placeOf (lowest (fitsFrom rover need) firstChunk ks)
+      → At link chunk ≡ placeOf (nextFit rover need ks)
+  unfolding placeOf
+  found-from-rover link chunk = go (lowest (fitsFrom rover need) firstChunk ks)
+    where
+      go : (spot : Spot) → At link chunk ≡ placeOf spot → At link chunk ≡ placeOf (orElseAt spot (firstFit need ks))
+      go nowhere e = absurd (let z : _≡_ {A = ℕ} 0 1 = cc in omega arith)
+      go (at pre k post) e = e
+
+  -- none was found there, so once round it is the lowest
+  pub found-round : Nowhere ≡ placeOf (lowest (fitsFrom rover need) firstChunk ks) → firstFit need ks ≡ nextFit rover need ks
+  found-round e = rw (found-nowhere _ e)

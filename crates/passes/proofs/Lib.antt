@@ -3,5 +3,6 @@
 pub mod Standing
 pub mod Passing
 pub mod Searching
+pub mod Undercutting
 pub mod Finding
 pub mod Tallying

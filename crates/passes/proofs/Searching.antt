@@ -27,21 +27,21 @@ unfoldable pub placeFrom : ℕ → ℕ → Spot → Place
 placeFrom base c nowhere = Nowhere
 placeFrom base c (at pre k post) = At (linkAt base c pre) (c + total pre)
 
-place-from : (s : Spot) → placeFrom listWord firstChunk s ≡ placeOf s
+pub place-from : (s : Spot) → placeFrom listWord firstChunk s ≡ placeOf s
 unfolding placeFrom placeOf
 place-from nowhere = refl
 place-from (at pre k post) = refl
 
-place-here : (base c : ℕ) (k : Chunk) (post : List Chunk) → placeFrom base c (at [] k post) ≡ At base c
+pub place-here : (base c : ℕ) (k : Chunk) (post : List Chunk) → placeFrom base c (at [] k post) ≡ At base c
 unfolding placeFrom
 place-here base c k post = ap (At base) (omega arith)
 
-place-past-live : (base c s : ℕ) (spot : Spot) → placeFrom base c (behind (live s) spot) ≡ placeFrom base (c + s) spot
+pub place-past-live : (base c s : ℕ) (spot : Spot) → placeFrom base c (behind (live s) spot) ≡ placeFrom base (c + s) spot
 unfolding placeFrom
 place-past-live base c s nowhere = refl
 place-past-live base c s (at pre k post) = ap (At (linkAt base (c + s) pre)) (omega arith)
 
-place-past-free : (base c s : ℕ) (spot : Spot) → placeFrom base c (behind (free s) spot) ≡ placeFrom (c + 1) (c + s) spot
+pub place-past-free : (base c s : ℕ) (spot : Spot) → placeFrom base c (behind (free s) spot) ≡ placeFrom (c + 1) (c + s) spot
 unfolding placeFrom
 place-past-free base c s nowhere = refl
 place-past-free base c s (at pre k post) = ap (At (linkAt (c + 1) (c + s) pre)) (omega arith)

@@ -1,9 +1,9 @@
-// The two searches: for a block by its number, and for a free chunk that fits.
+// The search for a block by its number, and what a search answers.
 use layout::wide;
 ghost use mathlib.Core.Path.{_≡_};
 ghost use mathlib.Core.Bool.{true};
 ghost use Rattle.layout.specs.Walk.{sound, chunksOf};
-ghost use Rattle.rules.specs.Spots.{held, firstFit};
+ghost use Rattle.rules.specs.Spots.{held};
 ghost use Rattle.passes.specs.Places.{placeOf};
 
 // A chunk that a search found: its link word (the list's first word, or the second word of the last free chunk below
@@ -40,24 +40,5 @@ pub fn find(a: &[u32], b: usize) -> Place
     if a[chunk + 1] != layout::LIVE_MARK {
         return Place::Nowhere;
     }
-    Place::At(link, chunk)
-}
-
-// The lowest free chunk of at least `need` words: follows the links from the list's first word on.
-pub fn first_fit(a: &[u32], need: usize) -> Place
-    requires { ⌜ sound (now a) ≡ true ⌝ }
-    ensures { λ r. ⌜ r ≡ placeOf (firstFit need (chunksOf (now (a .entry)))) ⌝ }
-{
-    let mut link = layout::LIST_WORD;
-    let chunk = loop {
-        let next = wide(a[link]);
-        if next == 0 {
-            return Place::Nowhere;
-        }
-        if need <= wide(a[next]) {
-            break next;
-        }
-        link = next + 1;
-    };
     Place::At(link, chunk)
 }

@@ -1,26 +1,42 @@
 -- What a call is asked for, and what it answers, as the functions inside say it. No public contract cites this file.
-use Prim.Native.Nat.{ℕ}
+use Prim.Native.Nat.{ℕ, _≤_}
 use mathlib.Core.List.{List}
 use lib.ListN.{length}
-use Rattle.layout.specs.Numbers.{need}
+use Rattle.layout.specs.Numbers.{need, greatestLength}
 use Rattle.layout.specs.Walk.{chunksOf}
 use Rattle.layout.specs.Reasons.{arenaGate, requestGate}
 use Rattle.layout.specs.declared.Gate.{Gate}
 use Rattle.layout.specs.declared.Gate.the-variants.{Open, Shut}
 use Rattle.layout.specs.declared.Reason.{Reason}
-use Rattle.layout.specs.declared.Reason.the-variants.{NotABlock}
-use Rattle.rules.specs.Spots.{held}
+use Rattle.layout.specs.declared.Reason.the-variants.{NotABlock, NoRoom}
+use Rattle.rules.specs.Answers.{settle, Gives}
+use Rattle.rules.specs.Spots.{Spot, held}
+use Rattle.rules.specs.Calls.{granted}
+use Rattle.answers.specs.Readings.{grantedNumbers}
 use Rattle.answers.specs.declared.Granted.{Granted}
 use Rattle.answers.specs.declared.Granted.the-variants.{Block as NewBlock, Refused as NotGranted}
 use Rattle.passes.specs.Places.{placeOf}
 use Rattle.passes.specs.declared.places.Place.{Place}
 use Rattle.passes.specs.declared.places.Place.the-variants.{At, Nowhere}
+use Rattle.ways.specs.Ways.{allotting, PickedAt}
 use Rattle.ways.specs.declared.Way.{Way}
 use Rattle.ways.specs.declared.Way.the-variants.{Grants, Shut as NoWay}
+use Rattle.targets.specs.declared.Asked.{Asked}
+use Rattle.targets.specs.declared.Asked.the-variants.{Need, Refused as NotAsked}
 use Rattle.targets.specs.declared.Located.{Located}
 use Rattle.targets.specs.declared.Located.the-variants.{Chunk, Refused as NotLocated}
 use Rattle.targets.specs.declared.Target.{Target}
 use Rattle.targets.specs.declared.Target.the-variants.{Block, Refused as NoTarget}
+
+-- by the arena's gate and by the request's
+abbrev pub askedBy : Gate → Gate → ℕ → Asked
+askedBy (Shut why) request need = NotAsked why
+askedBy Open (Shut why) need = NotAsked why
+askedBy Open Open need = Need need
+
+-- the need of a request for `n` words, or why it is refused: the arena is looked at first, then the request
+unfoldable pub askedFor : List ℕ → ℕ → Asked
+askedFor a n = askedBy (arenaGate a) (requestGate (length a) n) (need n)
 
 -- by the arena's gate and by what the search for the block answers
 abbrev pub locatedBy : Gate → Place → Located
@@ -46,3 +62,17 @@ targetOf a b n = targetBy (located a b) (requestGate (length a) n) (need n)
 abbrev pub grantedOf : Reason → Way → Granted
 grantedOf why (Grants block granted) = NewBlock block granted
 grantedOf why NoWay = NotGranted why
+
+-- what was picked for a need is granted as an alloc answers it
+abbrev pub GrantsFrom : List ℕ → ℕ → Place → Granted → List ℕ → Type 0
+GrantsFrom a need place answer after =
+    (spot : Spot) → PickedAt a need place spot → Gives (settle 2 a (granted NoRoom (allotting need spot a))) (grantedNumbers answer) after
+
+-- the start of a chunk that a search found, `rover` where it found none
+abbrev pub startIn : ℕ → Place → ℕ
+startIn rover (At link chunk) = chunk
+startIn rover Nowhere = rover
+
+-- it lies in an arena
+abbrev pub StartSmall : Place → Type 0
+StartSmall place = startIn 0 place ≤ greatestLength

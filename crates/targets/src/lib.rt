@@ -8,7 +8,29 @@ use passes::places;
 use passes::places::Place;
 use ways::Way;
 ghost use mathlib.Core.Path.{_≡_};
-ghost use Rattle.targets.specs.Targets.{located, targetOf, grantedOf};
+ghost use Rattle.ways.specs.Ways.{Picked};
+ghost use Rattle.targets.specs.Targets.{askedFor, located, targetOf, grantedOf, GrantsFrom, StartSmall, startIn};
+
+// The need of a new block; or why the request is refused.
+pub enum Asked {
+    Need(usize),
+    Refused(Reason),
+}
+
+// A request for `n` words: the arena is checked, and then the request.
+pub fn ask(a: &[u32], n: u32) -> Asked
+    ensures { λ r. ⌜ r ≡ askedFor (now (a .entry)) n ⌝ }
+{
+    let arena = walk::check_arena(a);
+    if let Gate::Shut(why) = arena {
+        return Asked::Refused(why);
+    }
+    let request = layout::check_request(a.len(), wide(n));
+    if let Gate::Shut(why) = request {
+        return Asked::Refused(why);
+    }
+    Asked::Need(layout::need(wide(n)))
+}
 
 // A block's chunk, and its link word; or why a call on the block is refused.
 pub enum Located {
@@ -69,5 +91,24 @@ pub fn answer(way: Way, why: Reason) -> Granted
     match way {
         Way::Grants(block, granted) => Granted::Block { block, granted },
         Way::Shut => Granted::Refused(why),
+    }
+}
+
+// A new block from the free chunk that a search found, as an alloc answers it.
+pub fn grant(a: &mut [u32], place: Place, need: usize) -> Granted
+    requires { ⌜ Picked (now a) need place ⌝ }
+    ensures { λ r. ⌜ GrantsFrom (now (a .entry)) need place r (now (a .exit)) ⌝ }
+{
+    answer(ways::allot(a, place, need), Reason::NoRoom)
+}
+
+// The start of a chunk that a search found; `rover` where it found none.
+pub fn start_of(place: Place, rover: u32) -> u32
+    requires { ⌜ StartSmall place ⌝ }
+    ensures { λ r. ⌜ r ≡ startIn rover place ⌝ }
+{
+    match place {
+        Place::At(_, chunk) => chunk as u32,
+        Place::Nowhere => rover,
     }
 }

@@ -1,12 +1,11 @@
--- A need is granted from the lowest free chunk that fits.
+-- A need is granted from the free chunk that was picked.
 use mathlib.Core.Path.{_≡_, refl}
 use mathlib.Core.List.{List}
 use Prim.Native.Nat.{ℕ, _≤_}
 use native.Mathlib.Omega.{arith}
 use Rattle.layout.specs.Numbers.{greatestLength}
 use Rattle.layout.specs.Chunks.{Chunk, free}
-use Rattle.layout.specs.Walk.{chunksOf}
-use Rattle.rules.specs.Spots.{at, firstFit}
+use Rattle.rules.specs.Spots.{Spot, at}
 use Rattle.rules.proofs.Remainder.{cut-numbers}
 use Rattle.passes.specs.Places.{placeOf, Placed}
 use Rattle.passes.specs.declared.places.Place.the-variants.{Nowhere}
@@ -26,11 +25,11 @@ took-small st enough t =
     let w = cut-numbers _ _ enough .within in
     (omega (arith, t .starts, r .at-is), omega (arith, t .has))
 
-module _ (a : List ℕ) (need : ℕ) where
-  pub allot-shut : Nowhere ≡ placeOf (firstFit need (chunksOf a)) → Follows (allotting need a) a Shut a
-  allot-shut e = rw (found-nowhere (firstFit need (chunksOf a)) e) (record { answers = refl; leaves = refl })
+module _ (a : List ℕ) (need : ℕ) (spot : Spot) where
+  pub allot-shut : Nowhere ≡ placeOf spot → Follows (allotting need spot a) a Shut a
+  allot-shut e = rw (found-nowhere spot e) (record { answers = refl; leaves = refl })
 
   pub allot-grants : (pre : List Chunk) (s : ℕ) (post : List Chunk) (piece : Piece) (after : List ℕ)
-      → firstFit need (chunksOf a) ≡ at pre (free s) post → Took a pre s post need piece after
-      → Follows (allotting need a) a (grantsOf piece) after
-  allot-grants pre s post piece after spot t = rw spot (record { answers = rw (t .starts, t .has); leaves = t .leaves })
+      → spot ≡ at pre (free s) post → Took a pre s post need piece after
+      → Follows (allotting need spot a) a (grantsOf piece) after
+  allot-grants pre s post piece after is t = rw is (record { answers = rw (t .starts, t .has); leaves = t .leaves })

@@ -15,7 +15,8 @@ use Rattle.layout.specs.Walk.{chunksOf}
 use Rattle.layout.specs.Links.{linkAt}
 use Rattle.layout.proofs.Holds.{total-append}
 use Rattle.layout.proofs.Written.{length-written}
-use Rattle.rules.specs.Spots.{at, firstFit}
+use Rattle.rules.specs.Spots.{at}
+use Rattle.rules.specs.Fits.{firstFit}
 use Rattle.rules.specs.Rules.{taken, cut, copied, relocated, released}
 use Rattle.rules.specs.Rooms.{Needed}
 use Rattle.rules.proofs.Remainder.{Remainder, split, whole, remainder, cut-numbers}

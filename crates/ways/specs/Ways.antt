@@ -1,14 +1,18 @@
 -- Which of the ways of the rules was followed. No public contract cites this file.
 use Prim.Native.Nat.{ℕ, _+_, _-_}
 use mathlib.Core.Path.{_≡_}
+use mathlib.Core.Bool.{true}
 use mathlib.Core.List.{List}
 use Rattle.layout.specs.Numbers.{headerWords}
 use Rattle.layout.specs.Chunks.{Chunk, live}
-use Rattle.layout.specs.Walk.{chunksOf}
-use Rattle.rules.specs.Spots.{at, firstFit}
+use Rattle.layout.specs.Walk.{sound, chunksOf}
+use Rattle.rules.specs.Spots.{Spot, at}
+use Rattle.rules.specs.Fits.{firstFit, Picks}
+use Rattle.rules.specs.Rooms.{Needed}
 use Rattle.rules.specs.Rules.{Way as RuleWay}
 use Rattle.rules.specs.Rules.{shut, grants, grantFrom, allotted, Regrant}
-use Rattle.passes.specs.Places.{Placed}
+use Rattle.passes.specs.Places.{placeOf, Placed}
+use Rattle.passes.specs.declared.places.Place.{Place}
 use Rattle.stores.specs.declared.taking.Piece.{Piece}
 use Rattle.ways.specs.declared.Way.{Way}
 use Rattle.ways.specs.declared.Way.the-variants.{Grants, Shut}
@@ -26,9 +30,21 @@ pub record Follows (way : RuleWay) (a : List ℕ) (answer : Way) (after : List �
   pub answers : answer ≡ wayAnswer way
   pub leaves : after ≡ wayWords way a
 
--- a new block of the lowest free chunk that fits
-abbrev pub allotting : ℕ → List ℕ → RuleWay
-allotting need a = allotted (grantFrom need (firstFit need (chunksOf a))) a
+-- a new block of the free chunk at a spot
+abbrev pub allotting : ℕ → Spot → List ℕ → RuleWay
+allotting need spot a = allotted (grantFrom need spot) a
+
+-- `place` is what was picked for the need, as a search answers it
+abbrev pub PickedAt : List ℕ → ℕ → Place → Spot → Type 0
+PickedAt a need place spot = Picks (chunksOf a) need spot × (place ≡ placeOf spot)
+
+-- a search of a sound arena answered `place` for a need
+abbrev pub Picked : List ℕ → ℕ → Place → Type 0
+Picked a need place = (sound a ≡ true) × Needed need × ((spot : Spot) × PickedAt a need place spot)
+
+-- a new block was granted from what was picked
+abbrev pub FollowsFrom : List ℕ → ℕ → Place → Way → List ℕ → Type 0
+FollowsFrom a need place answer after = (spot : Spot) → PickedAt a need place spot → Follows (allotting need spot a) a answer after
 
 -- the way that a rule gives the live chunk of `s` words between `pre` and `post`
 abbrev pub wayBy : Regrant → ℕ → ℕ → List ℕ → List Chunk → ℕ → List Chunk → RuleWay

@@ -6,14 +6,12 @@ pub mod staying;
 use passes::places::Place;
 use stores::taking::Piece;
 ghost use mathlib.Core.Path.{_≡_};
-ghost use mathlib.Core.Bool.{true};
 ghost use Prim.Native.Nat.{_≤_};
 ghost use Rattle.layout.specs.Numbers.{greatestLength};
-ghost use Rattle.layout.specs.Walk.{sound};
 ghost use Rattle.rules.specs.Rules.{regranted};
 ghost use Rattle.rules.specs.Rooms.{Needed};
 ghost use Rattle.passes.specs.Places.{LiveAt};
-ghost use Rattle.ways.specs.Ways.{Follows, FollowsAt, allotting, grantsOf};
+ghost use Rattle.ways.specs.Ways.{FollowsAt, Picked, FollowsFrom, grantsOf};
 
 // What a call that grants comes to: a block and its granted words, or nothing, and then nothing was changed.
 pub enum Way {
@@ -32,12 +30,11 @@ pub(crate) fn grants(piece: Piece) -> Way
     )
 }
 
-// Grants a need from the lowest free chunk that fits.
-pub fn allot(a: &mut [u32], need: usize) -> Way
-    requires { ⌜ (sound (now a) ≡ true) × Needed need ⌝ }
-    ensures { λ r. ⌜ Follows (allotting need (now (a .entry))) (now (a .entry)) r (now (a .exit)) ⌝ }
+// Grants a need from the free chunk that a search found.
+pub fn allot(a: &mut [u32], place: Place, need: usize) -> Way
+    requires { ⌜ Picked (now a) need place ⌝ }
+    ensures { λ r. ⌜ FollowsFrom (now (a .entry)) need place r (now (a .exit)) ⌝ }
 {
-    let place = passes::places::first_fit(a, need);
     let Place::At(link, chunk) = place else {
         return Way::Shut;
     };

@@ -32,7 +32,7 @@ pub fn relocate_at(a: &mut [u32], link: usize, chunk: usize, need: usize) -> Way
     requires { ⌜ LiveAt (now a) link chunk × Needed need ⌝ }
     ensures { λ r. ⌜ FollowsAt relocated (now (a .entry)) link chunk need r (now (a .exit)) ⌝ }
 {
-    let place = passes::places::first_fit(a, need);
+    let place = passes::fits::first_fit(a, need);
     let Place::At(gap_link, gap) = place else {
         return Way::Shut;
     };

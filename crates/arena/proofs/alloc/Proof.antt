@@ -1,135 +1,57 @@
--- `alloc` meets its contract: a gate is shut, or `allot` follows its way.
-use mathlib.Core.Path.{_≡_, refl, sym, ap, _∙_}
-use mathlib.Core.Bool.{true}
-use lib.ListN.{length}
+-- `alloc` meets its contract: its request is refused, or what first fit picked is granted.
+use mathlib.Core.Path.{sym, _∙_}
 use borrow.Author.Needs.{needs}
-use Rattle.layout.specs.Numbers.{lawful}
-use Rattle.layout.specs.Reasons.{arenaGate, requestGate}
-use Rattle.layout.specs.declared.Gate.the-variants.{Open}
-use Rattle.rules.specs.Calls.{allocBy}
-use Rattle.layout.proofs.Round.{sound-lawful}
-use Rattle.rules.proofs.Gates.{gate-open, request-small, request-open}
-use Rattle.targets.proofs.Granting.{way-gives}
+use Rattle.rules.specs.Fits.{firstFit}
+use Rattle.rules.proofs.Fits.{first-fitting}
+use Rattle.targets.proofs.Asking.{ask-refused, Wanted, ask-wanted, picked-by, granted-by}
 use Rattle.arena.proofs.alloc.Statement.{statement}
 use Rattle.arena.proofs.alloc.Tie as tie
 
--- ---- the places of the walk: where the call began, where the arena's gate was open, and where the request's was
+-- the need that it is about
+wanted : (c : tie.After-asked) → let x = c .before .before .before .before .before .args in Wanted (x .a .now) (x .n) (c .asked .given .0 .0)
+wanted c = ask-wanted _ _ _ (sym (c .asked .given .1) ∙ c .before .before .ask .ensures)
 
-abbrev began : tie.After-enum-told → tie.Start
-began c = c .before .before .before .before .before
+ask-requires : tie.Need-ask-requires
+ask-requires c κs = search needs
 
-abbrev arena-passed : tie.After-enum-told2 → tie.After-enum-told
-arena-passed c = c .before .before .before .before
+enum-known-asked : tie.Need-enum-known-asked
+enum-known-asked c = search needs
 
-abbrev request-passed : tie.After-need → tie.After-enum-told2
-request-passed c = c .before .before .before
+first-fit-requires : tie.Need-first-fit-requires
+first-fit-requires c κs = wanted (c .before .before) .is-sound
 
--- ---- what is known there
+grant-requires : tie.Need-grant-requires
+grant-requires c κs =
+    let searched = c .before in
+    picked-by firstFit first-fitting (wanted (searched .before .before .before)) (searched .first-fit .ensures)
 
--- the arena's gate is open
-arena-open : (c : tie.After-enum-told) → Open ≡ arenaGate (began c .args .a .now)
-arena-open c = sym (c .enum-told .given .1) ∙ c .before .before .check-arena .ensures
-
--- what the request's gate is
-asked : (c : tie.After-check-request) → let x = began (c .before .before) .args in
-    c .check-request .result ≡ requestGate (length (x .a .now)) (x .n)
-asked c = c .check-request .ensures ∙ ap (requestGate _) (c .before .wide .ensures)
-
--- it is open too
-request-opens : (c : tie.After-enum-told2)
-    → let x = began (arena-passed c) .args in
-    (lawful (length (x .a .now)) ≡ true) × (Open ≡ requestGate (length (x .a .now)) (x .n))
-request-opens c = (
-  sound-lawful _ (gate-open _ (arena-open (arena-passed c))),
-  sym (c .enum-told2 .given .1)
-      ∙ asked (c .before .before),
-)
-
-check-arena-requires : tie.Need-check-arena-requires
-check-arena-requires c κs = search needs
-
-enum-known-arena : tie.Need-enum-known-arena
-enum-known-arena c = search needs
+enum-known-asked-2 : tie.Need-enum-known-asked-2
+enum-known-asked-2 c = search needs
 
 same-length : tie.Need-same-length
 same-length c = search needs
 
 returns : tie.Need-returns
-unfolding allocBy
-returns c = rw (← (sym (c .before .arena .given .1) ∙ c .before .before .before .check-arena .ensures)) (record { answers = refl; leaves = refl })
-
-enum-told : tie.Need-enum-told
-enum-told c = search needs
-
-wide-requires : tie.Need-wide-requires
-wide-requires c κs = search needs
-
-check-request-requires : tie.Need-check-request-requires
-check-request-requires c κs = sound-lawful _ (gate-open _ (arena-open (c .before)))
-
-enum-known-request : tie.Need-enum-known-request
-enum-known-request c = search needs
+returns c =
+    let searched = c .before .before .before .before in
+    granted-by firstFit first-fitting (wanted (searched .before .before .before)) (searched .first-fit .ensures) (c .before .before .grant .result) _ (c .before .before .grant .ensures)
 
 same-length-2 : tie.Need-same-length-2
 same-length-2 c = search needs
 
 returns-2 : tie.Need-returns-2
-unfolding allocBy
-returns-2 c =
-    rw (← arena-open (c .before .before .before .before .before), ← (sym (c .before .request .given .1) ∙ asked (c .before .before .before)))
-    (record { answers = refl; leaves = refl })
-
-enum-told-2 : tie.Need-enum-told-2
-enum-told-2 c = search needs
-
-wide-requires-2 : tie.Need-wide-requires-2
-wide-requires-2 c κs = search needs
-
-need-requires : tie.Need-need-requires
-need-requires c κs = let r = request-opens (c .before .before) in rw (c .wide2 .ensures) (request-small _ _ (r .0) (r .1))
-
-allot-requires : tie.Need-allot-requires
-allot-requires c κs =
-    let passed = request-passed c in
-    let r = request-opens passed in (
-      gate-open _ (arena-open (arena-passed passed)),
-      rw (c .need .ensures, c .before .wide2 .ensures)
-          (request-open _ _ (r .0) (r .1)),
-    )
-
-answer-requires : tie.Need-answer-requires
-answer-requires c κs = search needs
-
-same-length-3 : tie.Need-same-length-3
-same-length-3 c = search needs
-
-returns-3 : tie.Need-returns-3
-unfolding allocBy
-returns-3 c =
-    let d = c .before .before .before .before in
-    let f = rw (d .need .ensures, d .before .wide2 .ensures) at (c .before .before .before .allot .ensures) in
-    let passed = request-passed d in
-    rw (← arena-open (arena-passed passed), ← request-opens passed .1, c .answer .ensures)
-    (way-gives _ _ _ _ _ f)
+returns-2 c = ask-refused _ _ _ (sym (c .before .asked2 .given .1) ∙ c .before .before .before .ask .ensures) firstFit
 
 pub alloc-spec : {M : Type 1} → statement M
 alloc-spec =
     tie.close
     (tie.spec
-    check-arena-requires
-    enum-known-arena
+    ask-requires
+    enum-known-asked
+    first-fit-requires
+    grant-requires
+    enum-known-asked-2
     same-length
     returns
-    enum-told
-    wide-requires
-    check-request-requires
-    enum-known-request
     same-length-2
-    returns-2
-    enum-told-2
-    wide-requires-2
-    need-requires
-    allot-requires
-    answer-requires
-    same-length-3
-    returns-3)
+    returns-2)

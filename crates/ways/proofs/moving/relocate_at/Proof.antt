@@ -10,6 +10,9 @@ use Rattle.layout.specs.Chunks.{Chunk, live}
 use Rattle.rules.specs.Rules.{taken}
 use Rattle.passes.specs.Places.{Placed}
 use Rattle.passes.proofs.Standing.{Reads, reads}
+use Rattle.layout.specs.Walk.{chunksOf}
+use Rattle.rules.specs.Fits.{firstFit}
+use Rattle.rules.proofs.Fits.{first-fitting}
 use Rattle.passes.proofs.Finding.{FoundGap, found-gap, found-nowhere}
 use Rattle.stores.specs.Taken.{Took}
 use Rattle.stores.specs.Beside.{Beside}
@@ -49,10 +52,10 @@ stood c = reads _ _ _ _ _ _ (c .pre .0 .3)
 
 -- the free chunk that the search found
 gap : (c : tie.After-place)
-    → let x = entered c .args in FoundGap (x .a .now) (x .need) (c .place .given .0 .0) (c .place .given .0 .1 .0)
+    → let x = entered c .args in FoundGap (firstFit (x .need) (chunksOf (x .a .now))) (x .a .now) (x .need) (c .place .given .0 .0) (c .place .given .0 .1 .0)
 gap c =
     let x = entered c .pre in
-    found-gap _ _ _ _ (x .0 .3 .is-sound) (sym (c .place .given .1) ∙ c .before .before .first-fit .ensures)
+    found-gap _ _ _ (first-fitting _ _) _ _ (x .0 .3 .is-sound) (sym (c .place .given .1) ∙ c .before .before .first-fit .ensures)
 
 -- the old block's words
 old-words : (c : tie.After-take) → (pre : List Chunk) (s : ℕ) (post : List Chunk) → Old (began c) pre s post
