@@ -3,18 +3,28 @@ use Prim.Native.Nat.{ℕ}
 use mathlib.Core.Path.{_≡_}
 use mathlib.Core.Logic.{_≢_}
 use mathlib.Core.Bool.{Bool, cond, _||_}
-use mathlib.Core.List.{List, [], _∷_}
+use mathlib.Core.List.{List, [], _∷_, _++_}
 use lib.ListN.{length, getD}
 use lib.Dec.{eqb}
 use Rattle.rules.specs.Answers.{Answer, Outcome, success, noCall}
-use Rattle.rules.specs.Calls.{startOn, allocOn, freeOn, resizeOn, relocateOn, reallocOn, reportOn, sizeOn, viewOn}
+use Rattle.rules.specs.Calls.{startOn, allocOn, allocBestOn, allocNextOn, roverAfter, freeOn, resizeOn, relocateOn, reallocOn, reportOn, sizeOn, viewOn}
 use Rattle.answers.specs.Padded.{padded}
 use Rattle.spelling.specs.Copies.{Begins}
 use Rattle.trials.specs.declared.replies.Reply.{Reply}
 
 -- ---- the calls that have an answer
 
--- what call number `call` comes to, on block `b` or for `n` words; 7 and 8 are the views, below
+-- the answer of next fit with the rover afterwards as one field more
+abbrev pub withRover : Answer → ℕ → Answer
+withRover answer rover = record { code = answer .code; values = answer .values ++ rover ∷ [] }
+
+abbrev pub nextOutcome : List ℕ → ℕ → ℕ → Outcome
+nextOutcome a rover n =
+    let outcome = allocNextOn a rover n in
+    record { answer = withRover (outcome .answer) (roverAfter a rover n); words = outcome .words }
+
+-- what call number `call` comes to, on block `b`, or with the rover there, or for `n` words; 7 and 8 are the views,
+-- below
 unfoldable pub outcomeOf : ℕ → ℕ → ℕ → List ℕ → Outcome
 outcomeOf call b n a =
     cond (eqb call 1) (startOn a)
@@ -25,7 +35,9 @@ outcomeOf call b n a =
     (cond (eqb call 6) (sizeOn a b)
     (cond (eqb call 9) (resizeOn a b n)
     (cond (eqb call 10) (relocateOn a b n)
-    (noCall a))))))))
+    (cond (eqb call 11) (allocBestOn a n)
+    (cond (eqb call 12) (nextOutcome a b n)
+    (noCall a))))))))))
 
 -- ---- the calls that hand words back
 

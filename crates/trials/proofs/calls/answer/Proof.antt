@@ -4,7 +4,7 @@ use mathlib.Core.Path.{refl}
 use borrow.Author.Needs.{needs}
 use Rattle.answers.proofs.Padded.{settled}
 use Rattle.trials.specs.Trials.{outcomeOf}
-use Rattle.trials.proofs.Trials.{unknown-call}
+use Rattle.trials.proofs.Trials.{unknown-call, roved}
 use Rattle.trials.proofs.calls.answer.Statement.{statement}
 use Rattle.trials.proofs.calls.answer.Tie as tie
 
@@ -55,6 +55,18 @@ relocate-requires c κs = search needs
 
 granted-numbers-requires-4 : tie.Need-granted-numbers-requires-4
 granted-numbers-requires-4 c κs = search needs
+
+alloc-best-requires : tie.Need-alloc-best-requires
+alloc-best-requires c κs = search needs
+
+granted-numbers-requires-5 : tie.Need-granted-numbers-requires-5
+granted-numbers-requires-5 c κs = search needs
+
+alloc-next-requires : tie.Need-alloc-next-requires
+alloc-next-requires c κs = search needs
+
+roved-numbers-requires : tie.Need-roved-numbers-requires
+roved-numbers-requires c κs = search needs
 
 refusal-numbers-requires : tie.Need-refusal-numbers-requires
 refusal-numbers-requires c κs = search needs
@@ -131,11 +143,30 @@ returns-8 c =
     let d = c .before .before .before in
     rw (d .before .before .match .keys8) (settled (d .relocate .ensures) (c .granted-numbers4 .ensures))
 
+same-length-9 : tie.Need-same-length-9
+same-length-9 c = search needs
+
 returns-9 : tie.Need-returns-9
+unfolding outcomeOf
 returns-9 c =
+    let d = c .before .before .before in
+    rw (d .before .before .match .keys9) (settled (d .alloc-best .ensures) (c .granted-numbers5 .ensures))
+
+same-length-10 : tie.Need-same-length-10
+same-length-10 c = search needs
+
+returns-10 : tie.Need-returns-10
+unfolding outcomeOf
+returns-10 c =
+    let d = c .before .before .before in
+    rw (d .before .before .match .keys10) (roved (d .alloc-next .result) (d .alloc-next .ensures) (c .roved-numbers .ensures))
+
+returns-11 : tie.Need-returns-11
+returns-11 c =
     let r = c .before .match .rest in
     let s = r .0 .0 .0 .0 in
-    rw (unknown-call _ _ _ _ (s .0 .0 .0 .1) (s .0 .0 .1) (s .0 .1) (s .1) (r .0 .0 .0 .1) (r .0 .0 .1) (r .0 .1) (r .1))
+    let t = s .0 .0 in
+    rw (unknown-call _ _ _ _ (t .0 .0 .0 .1) (t .0 .0 .1) (t .0 .1) (t .1) (s .0 .1) (s .1) (r .0 .0 .0 .1) (r .0 .0 .1) (r .0 .1) (r .1))
     (record { answers = c .refusal-numbers .ensures; leaves = refl })
 
 pub answer-spec : {M : Type 1} → statement M
@@ -158,6 +189,10 @@ answer-spec =
     granted-numbers-requires-3
     relocate-requires
     granted-numbers-requires-4
+    alloc-best-requires
+    granted-numbers-requires-5
+    alloc-next-requires
+    roved-numbers-requires
     refusal-numbers-requires
     same-length
     returns
@@ -175,4 +210,8 @@ answer-spec =
     returns-7
     same-length-8
     returns-8
-    returns-9)
+    same-length-9
+    returns-9
+    same-length-10
+    returns-10
+    returns-11)
