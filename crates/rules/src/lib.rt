@@ -18,3 +18,9 @@ pub struct Served {
     pub block: u32,
     pub granted: u32,
 }
+
+// Where next fit goes on: a word of the arena, as the last granted call left it, or any number.
+#[repr(C)]
+pub struct Rover {
+    pub at: u32,
+}

@@ -8,11 +8,12 @@ use answers::Reported;
 use answers::Sized;
 use answers::Written;
 use batch::Request;
+use rules::Rover;
 ghost use mathlib.Core.Path.{_≡_};
 ghost use mathlib.Core.List.{[], _∷_};
 ghost use lib.ListN.{getD};
 ghost use Rattle.rules.specs.Answers.{Gives};
-ghost use Rattle.rules.specs.Calls.{startOn, allocOn, freeOn, resizeOn, relocateOn, reallocOn, sizeOn, reportOn, readOn};
+ghost use Rattle.rules.specs.Calls.{startOn, allocOn, allocBestOn, Roves, freeOn, resizeOn, relocateOn, reallocOn, sizeOn, reportOn, readOn};
 ghost use Rattle.rules.specs.Batches.{batchOn, Fills};
 ghost use Rattle.answers.specs.Readings.{finishNumbers, grantedNumbers, sizedNumbers, reportedNumbers, writtenNumbers};
 ghost use Rattle.picture.specs.Writing.{Writes};
@@ -33,6 +34,25 @@ pub extern "C" fn zv_alloc(a: &mut [u32], n: u32, answer: &mut [u32; 2]) -> u32
     ensures { λ r. ⌜ Gives (allocOn (now (a .entry)) n) (returned r (now (answer .exit))) (now (a .exit)) ⌝ }
 {
     tell_granted(arena::alloc(a, n), answer)
+}
+
+// Grants a block of at least `n` words by best fit.
+#[no_mangle]
+pub extern "C" fn zv_alloc_best(a: &mut [u32], n: u32, answer: &mut [u32; 2]) -> u32
+    ensures { λ r. ⌜ Gives (allocBestOn (now (a .entry)) n) (returned r (now (answer .exit))) (now (a .exit)) ⌝ }
+{
+    tell_granted(arena::alloc_best(a, n), answer)
+}
+
+// Grants a block of at least `n` words by next fit, and moves the rover to the start of the chunk that was found.
+#[no_mangle]
+pub extern "C" fn zv_alloc_next(a: &mut [u32], rover: &mut Rover, n: u32, answer: &mut [u32; 2]) -> u32
+    ensures { λ r. ⌜ Roves (now (a .entry)) (now (rover .entry) .at) n (returned r (now (answer .exit))) (now (a .exit)) (now (rover .exit) .at) ⌝ }
+{
+    let at = rover.at;
+    let told = tell_next(a, at, n, answer);
+    rover.at = told.rover;
+    told.code
 }
 
 // Frees block `b`.
@@ -140,6 +160,26 @@ fn tell_granted(granted: Granted, answer: &mut [u32; 2]) -> u32
     let words = fields[1];
     *answer = [block, words];
     numbers.code
+}
+
+// What next fit tells: the code, and the rover afterwards.
+struct NextTold {
+    code: u32,
+    rover: u32,
+}
+
+// Next fit from a rover on: a block and its granted words go into the lent array, the code and the rover are handed
+// back.
+fn tell_next(a: &mut [u32], rover: u32, n: u32, answer: &mut [u32; 2]) -> NextTold
+    ensures { λ r. ⌜ Roves (now (a .entry)) rover n (returned (r .code) (now (answer .exit))) (now (a .exit)) (r .rover) ⌝ }
+{
+    let roved = arena::alloc_next(a, rover, n);
+    let granted = roved.granted;
+    let code = tell_granted(granted, answer);
+    NextTold {
+        code,
+        rover: roved.rover,
+    }
 }
 
 // The granted words of a block go into the lent array.
