@@ -1,31 +1,23 @@
 // The calls for C: each returns its code, and stores the fields of its answer into a lent array; `zv_batch` stores both
 // into its records. The header is include/zandervlecht.h. A view needs no function: it is the words from the block's
 // number on, as many as `zv_size` answers.
-use answers::Finish;
-use answers::Granted;
-use answers::Numbers;
-use answers::Reported;
-use answers::Sized;
-use answers::Written;
 use batch::Request;
 use rules::Rover;
 ghost use mathlib.Core.Path.{_≡_};
-ghost use mathlib.Core.List.{[], _∷_};
-ghost use lib.ListN.{getD};
+ghost use mathlib.Core.List.{[]};
 ghost use Rattle.rules.specs.Answers.{Gives};
 ghost use Rattle.rules.specs.Calls.{startOn, allocOn, allocBestOn, Roves, freeOn, resizeOn, relocateOn, reallocOn, sizeOn, reportOn, readOn};
 ghost use Rattle.rules.specs.Batches.{batchOn, Fills};
-ghost use Rattle.answers.specs.Readings.{finishNumbers, grantedNumbers, sizedNumbers, reportedNumbers, writtenNumbers};
 ghost use Rattle.picture.specs.Writing.{Writes};
 ghost use Rattle.desk.specs.Checks.{gateNumber, bytesGate};
-ghost use Rattle.zandervlecht.specs.Returned.{returned};
+ghost use Rattle.telling.specs.Returned.{returned};
 
 // Makes the whole arena one free chunk.
 #[no_mangle]
 pub extern "C" fn zv_start(a: &mut [u32]) -> u32
     ensures { λ r. ⌜ Gives (startOn (now (a .entry))) (returned r []) (now (a .exit)) ⌝ }
 {
-    tell_finish(arena::start(a))
+    telling::tell_finish(arena::start(a))
 }
 
 // Grants a block of at least `n` words.
@@ -33,7 +25,7 @@ pub extern "C" fn zv_start(a: &mut [u32]) -> u32
 pub extern "C" fn zv_alloc(a: &mut [u32], n: u32, answer: &mut [u32; 2]) -> u32
     ensures { λ r. ⌜ Gives (allocOn (now (a .entry)) n) (returned r (now (answer .exit))) (now (a .exit)) ⌝ }
 {
-    tell_granted(arena::alloc(a, n), answer)
+    telling::tell_granted(arena::alloc(a, n), answer)
 }
 
 // Grants a block of at least `n` words by best fit.
@@ -41,16 +33,21 @@ pub extern "C" fn zv_alloc(a: &mut [u32], n: u32, answer: &mut [u32; 2]) -> u32
 pub extern "C" fn zv_alloc_best(a: &mut [u32], n: u32, answer: &mut [u32; 2]) -> u32
     ensures { λ r. ⌜ Gives (allocBestOn (now (a .entry)) n) (returned r (now (answer .exit))) (now (a .exit)) ⌝ }
 {
-    tell_granted(arena::alloc_best(a, n), answer)
+    telling::tell_granted(arena::alloc_best(a, n), answer)
 }
 
 // Grants a block of at least `n` words by next fit, and moves the rover to the start of the chunk that was found.
 #[no_mangle]
-pub extern "C" fn zv_alloc_next(a: &mut [u32], rover: &mut Rover, n: u32, answer: &mut [u32; 2]) -> u32
+pub extern "C" fn zv_alloc_next(
+    a: &mut [u32],
+    rover: &mut Rover,
+    n: u32,
+    answer: &mut [u32; 2],
+) -> u32
     ensures { λ r. ⌜ Roves (now (a .entry)) (now (rover .entry) .at) n (returned r (now (answer .exit))) (now (a .exit)) (now (rover .exit) .at) ⌝ }
 {
     let at = rover.at;
-    let told = tell_next(a, at, n, answer);
+    let told = telling::tell_next(a, at, n, answer);
     rover.at = told.rover;
     told.code
 }
@@ -60,7 +57,7 @@ pub extern "C" fn zv_alloc_next(a: &mut [u32], rover: &mut Rover, n: u32, answer
 pub extern "C" fn zv_free(a: &mut [u32], b: u32) -> u32
     ensures { λ r. ⌜ Gives (freeOn (now (a .entry)) b) (returned r []) (now (a .exit)) ⌝ }
 {
-    tell_finish(arena::free(a, b))
+    telling::tell_finish(arena::free(a, b))
 }
 
 // Makes block `b` one of at least `n` words where it stands.
@@ -68,7 +65,7 @@ pub extern "C" fn zv_free(a: &mut [u32], b: u32) -> u32
 pub extern "C" fn zv_resize(a: &mut [u32], b: u32, n: u32, answer: &mut [u32; 2]) -> u32
     ensures { λ r. ⌜ Gives (resizeOn (now (a .entry)) b n) (returned r (now (answer .exit))) (now (a .exit)) ⌝ }
 {
-    tell_granted(arena::resize(a, b, n), answer)
+    telling::tell_granted(arena::resize(a, b, n), answer)
 }
 
 // Moves block `b` to a new block of at least `n` words.
@@ -76,7 +73,7 @@ pub extern "C" fn zv_resize(a: &mut [u32], b: u32, n: u32, answer: &mut [u32; 2]
 pub extern "C" fn zv_relocate(a: &mut [u32], b: u32, n: u32, answer: &mut [u32; 2]) -> u32
     ensures { λ r. ⌜ Gives (relocateOn (now (a .entry)) b n) (returned r (now (answer .exit))) (now (a .exit)) ⌝ }
 {
-    tell_granted(arena::relocate(a, b, n), answer)
+    telling::tell_granted(arena::relocate(a, b, n), answer)
 }
 
 // Makes block `b` one of at least `n` words, where it stands or elsewhere.
@@ -84,7 +81,7 @@ pub extern "C" fn zv_relocate(a: &mut [u32], b: u32, n: u32, answer: &mut [u32; 
 pub extern "C" fn zv_realloc(a: &mut [u32], b: u32, n: u32, answer: &mut [u32; 2]) -> u32
     ensures { λ r. ⌜ Gives (reallocOn (now (a .entry)) b n) (returned r (now (answer .exit))) (now (a .exit)) ⌝ }
 {
-    tell_granted(arena::realloc(a, b, n), answer)
+    telling::tell_granted(arena::realloc(a, b, n), answer)
 }
 
 // The granted words of block `b`.
@@ -92,7 +89,7 @@ pub extern "C" fn zv_realloc(a: &mut [u32], b: u32, n: u32, answer: &mut [u32; 2
 pub extern "C" fn zv_size(a: &[u32], b: u32, answer: &mut [u32; 1]) -> u32
     ensures { λ r. ⌜ Gives (sizeOn (now (a .entry)) b) (returned r (now (answer .exit))) (now (a .entry)) ⌝ }
 {
-    tell_sized(arena::size(a, b), answer)
+    telling::tell_sized(arena::size(a, b), answer)
 }
 
 // The free words, the largest request that would be granted now, the live blocks and the free chunks.
@@ -100,7 +97,7 @@ pub extern "C" fn zv_size(a: &[u32], b: u32, answer: &mut [u32; 1]) -> u32
 pub extern "C" fn zv_report(a: &[u32], answer: &mut [u32; 4]) -> u32
     ensures { λ r. ⌜ Gives (reportOn (now (a .entry))) (returned r (now (answer .exit))) (now (a .entry)) ⌝ }
 {
-    tell_reported(arena::report(a), answer)
+    telling::tell_reported(arena::report(a), answer)
 }
 
 // Writes the picture of the arena to the start of the text, and answers how many bytes it has.
@@ -108,7 +105,7 @@ pub extern "C" fn zv_report(a: &[u32], answer: &mut [u32; 4]) -> u32
 pub extern "C" fn zv_write(a: &[u32], text: &mut [u8], answer: &mut [u32; 1]) -> u32
     ensures { λ r. ⌜ Writes (now (a .entry)) (now (text .entry)) (returned r (now (answer .exit))) (now (text .exit)) ⌝ }
 {
-    tell_written(picture::write(a, text), answer)
+    telling::tell_written(picture::write(a, text), answer)
 }
 
 // Makes the arena the words that a picture shows.
@@ -116,7 +113,7 @@ pub extern "C" fn zv_write(a: &[u32], text: &mut [u8], answer: &mut [u32; 1]) ->
 pub extern "C" fn zv_read(text: &[u8], a: &mut [u32]) -> u32
     ensures { λ r. ⌜ Gives (readOn (now (text .entry)) (now (a .entry))) (returned r []) (now (a .exit)) ⌝ }
 {
-    tell_finish(picture::read(text, a))
+    telling::tell_finish(picture::read(text, a))
 }
 
 // Checks the arena that bytes spell, four to a word, the lowest first: 0, 1 or 2.
@@ -141,77 +138,4 @@ pub extern "C" fn zv_batch(a: &mut [u32], requests: &mut [Request])
         requests[i].granted = served.granted;
         i += 1;
     }
-}
-
-// What start, free and the reading of a picture tell: the code alone.
-fn tell_finish(finish: Finish) -> u32
-    ensures { λ r. ⌜ returned r [] ≡ finishNumbers finish ⌝ }
-{
-    answers::finish_numbers(finish).code
-}
-
-// A block and its granted words go into the lent array; the code is handed back.
-fn tell_granted(granted: Granted, answer: &mut [u32; 2]) -> u32
-    ensures { λ r. ⌜ returned r (now (answer .exit)) ≡ grantedNumbers granted ⌝ }
-{
-    let numbers = answers::granted_numbers(granted);
-    let fields = numbers.fields;
-    let block = fields[0];
-    let words = fields[1];
-    *answer = [block, words];
-    numbers.code
-}
-
-// What next fit tells: the code, and the rover afterwards.
-struct NextTold {
-    code: u32,
-    rover: u32,
-}
-
-// Next fit from a rover on: a block and its granted words go into the lent array, the code and the rover are handed
-// back.
-fn tell_next(a: &mut [u32], rover: u32, n: u32, answer: &mut [u32; 2]) -> NextTold
-    ensures { λ r. ⌜ Roves (now (a .entry)) rover n (returned (r .code) (now (answer .exit))) (now (a .exit)) (r .rover) ⌝ }
-{
-    let roved = arena::alloc_next(a, rover, n);
-    let granted = roved.granted;
-    let code = tell_granted(granted, answer);
-    NextTold {
-        code,
-        rover: roved.rover,
-    }
-}
-
-// The granted words of a block go into the lent array.
-fn tell_sized(sized: Sized, answer: &mut [u32; 1]) -> u32
-    ensures { λ r. ⌜ returned r (now (answer .exit)) ≡ sizedNumbers sized ⌝ }
-{
-    tell_first(answers::sized_numbers(sized), answer)
-}
-
-// The bytes of a picture go into the lent array.
-fn tell_written(written: Written, answer: &mut [u32; 1]) -> u32
-    ensures { λ r. ⌜ returned r (now (answer .exit)) ≡ writtenNumbers written ⌝ }
-{
-    tell_first(answers::written_numbers(written), answer)
-}
-
-// The first field goes into the lent array, which has room for one; the code is handed back.
-fn tell_first(numbers: Numbers, answer: &mut [u32; 1]) -> u32
-    ensures { λ r. ⌜ returned r (now (answer .exit)) ≡ returned (numbers .code) (getD (numbers .fields) 0 0 ∷ []) ⌝ }
-{
-    let fields = numbers.fields;
-    let first = fields[0];
-    *answer = [first];
-    numbers.code
-}
-
-// The four numbers of a report go into the lent array.
-fn tell_reported(reported: Reported, answer: &mut [u32; 4]) -> u32
-    ensures { λ r. ⌜ returned r (now (answer .exit)) ≡ reportedNumbers reported ⌝ }
-{
-    let numbers = answers::reported_numbers(reported);
-    let fields = numbers.fields;
-    *answer = fields;
-    numbers.code
 }

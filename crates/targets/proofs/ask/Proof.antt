@@ -70,7 +70,6 @@ returns-2 : tie.Need-returns-2
 unfolding askedFor
 returns-2 c =
     rw (← arena-open (c .before .before .before .before .before), ← (sym (c .before .request .given .1) ∙ asked (c .before .before .before)))
-   
 
 enum-told-2 : tie.Need-enum-told-2
 enum-told-2 c = search needs

@@ -49,14 +49,14 @@ use Rattle.rules.specs.Calls.{Roves}
 use Rattle.rules.specs.declared.Rover.{Rover}
 use Rattle.rules.proofs.Rover as rover
 use Rattle.rules.proofs.Rover.Laws as rover-laws
-use Rattle.zandervlecht.specs.Returned.{returned}
-use Rattle.zandervlecht.specs.declared.NextTold.{NextTold}
-use Rattle.zandervlecht.proofs.NextTold as told
-use Rattle.zandervlecht.proofs.NextTold.Laws as told-laws
-use Rattle.zandervlecht.proofs.tell_next as tell-next
-use Rattle.zandervlecht.proofs.tell_next.Symbol as tell-next-symbol
-use Rattle.zandervlecht.proofs.tell_next.Symbol.{name as #tell-next}
-use Rattle.zandervlecht.proofs.tell_next.Met as tell-next-met
+use Rattle.telling.specs.Returned.{returned}
+use Rattle.telling.specs.declared.NextTold.{NextTold}
+use Rattle.telling.proofs.NextTold as told
+use Rattle.telling.proofs.NextTold.Laws as told-laws
+use Rattle.telling.proofs.tell_next as tell-next
+use Rattle.telling.proofs.tell_next.Symbol as tell-next-symbol
+use Rattle.telling.proofs.tell_next.Symbol.{name as #tell-next}
+use Rattle.telling.proofs.tell_next.Met as tell-next-met
 use Rattle.zandervlecht.proofs.zv_alloc_next.Key.{name as #zv-alloc-next}
 use Rattle.zandervlecht.proofs.zv_alloc_next as zv-alloc-next
 use Rattle.zandervlecht.proofs.zv_alloc_next.Statement as stated
@@ -74,9 +74,10 @@ pair = ArrayOf (plain (λ _. u32)) (λ _. tt) 2
 
 -- what stays: the arena and the array are given away, the rover is kept, and the number is plain
 abbrev stayed : Stays (zv-alloc-next.ended .signature .params) (zv-alloc-next.ended .kept)
-stayed =
-    (gave-slice (0 ∷ []) tt (plain (λ _. u32)),
-    (stay-ref (1 ∷ []) tt (plain (λ _. rover.the-row)), (stay-none (λ _. u32) yes, (gave-ref (2 ∷ []) tt pair, tt))))
+stayed = (
+  gave-slice (0 ∷ []) tt (plain (λ _. u32)),
+  (stay-ref (1 ∷ []) tt (plain (λ _. rover.the-row)), (stay-none (λ _. u32) yes, (gave-ref (2 ∷ []) tt pair, tt))),
+)
 
 -- the contract of `tell_next`
 abbrev TellNext : {M : Type 1} (𝓤 : URA M) (H : Heap 𝓤) (A : Atoms 𝓤) (mem : Memory → SProp 𝓤) (run : Routine → Fun 𝓤) → Contract 𝓤
@@ -116,9 +117,29 @@ module _ {M : Type 1} (𝓤 : URA M) (H : Heap 𝓤) (A : Atoms 𝓤) (W : Given
 
   -- what `tell_next` is called with: the arena and the array go on at their own lifetimes, shares and names
   abbrev passed : TellNext 𝓤 H A at-mem run .Ghost
-  passed =
-      (((κ, (κ″, tt)), (q, (q″, tt)), tt, (arena, (h .at, (n, (array, tt)))), (arenaVal ∷ [], (vint w32 (h .at) ∷ [], (vint w32 n ∷ [], (vptr b″ o″
-      ∷ [], tt))))), tt)
+  passed = (
+    (
+      (κ, (κ″, tt)),
+      (q, (q″, tt)),
+      tt,
+      (arena, (h .at, (n, (array, tt)))),
+      (
+        arenaVal ∷ [],
+        (
+          vint w32 (h .at) ∷ [],
+          (
+            vint w32 n ∷ [],
+            (
+              vptr b″ o″
+                  ∷ [],
+              tt,
+            ),
+          ),
+        ),
+      ),
+    ),
+    tt,
+  )
 
   goes : h .at < 2 ^ 32
       → ent 𝓤 (⋆ 𝓤 H A
@@ -220,8 +241,20 @@ module _ {M : Type 1} (𝓤 : URA M) (H : Heap 𝓤) (A : Atoms 𝓤) (W : Given
   walks =
       walked 𝓤 H A zv-alloc-next.ended stayed (zv-alloc-next.clauses 𝓤 H A at-mem run) (WpFn 𝓤 H (𝓣 .C) (𝓣 .Λ) code.function)
       (λ κs. (slice-vals, (ptr-vals, (uint-vals w32, (ptr-vals, tt)))))
-      (λ κs. (mut-slice-tells (named 0) (κs .0) u32, (mut-tells (named 1) (κs .1 .0) rover.the-row, (uint-tells w32, (mut-tells (named 2) (κs .1 .1 .0)
-      Pair, tt)))))
+      (λ κs. (
+        mut-slice-tells (named 0) (κs .0) u32,
+        (
+          mut-tells (named 1) (κs .1 .0) rover.the-row,
+          (
+            uint-tells w32,
+            (
+              mut-tells (named 2) (κs .1 .1 .0)
+                  Pair,
+              tt,
+            ),
+          ),
+        ),
+      ))
       (λ κs qs bounds a g are.
       let words = a .0 in
       let lent = a .1 .0 in
@@ -233,9 +266,17 @@ module _ {M : Type 1} (𝓤 : URA M) (H : Heap 𝓤) (A : Atoms 𝓤) (W : Given
 
   meets : Meets 𝓤 H A zv-alloc-next.signature (WpFn 𝓤 H (𝓣 .C) (𝓣 .Λ) code.function) (zv-alloc-next.spec 𝓤 H A at-mem run)
   meets =
-      walk-meets 𝓤 H A zv-alloc-next.ended stayed W
-      (goes-gave-slice 𝓤 H A W 3 0 tt (plain (λ _. u32)), (goes-ref 𝓤 H A W 3 1 tt (plain (λ _. rover.the-row)), (goes-none 𝓤 H A W 3 (λ _. u32) yes
-      (λ κs x f. refl), (goes-gave-ref 𝓤 H A W 3 2 tt pair, tt))))
+      walk-meets 𝓤 H A zv-alloc-next.ended stayed W (
+        goes-gave-slice 𝓤 H A W 3 0 tt (plain (λ _. u32)),
+        (
+          goes-ref 𝓤 H A W 3 1 tt (plain (λ _. rover.the-row)),
+          (
+            goes-none 𝓤 H A W 3 (λ _. u32) yes
+                (λ κs x f. refl),
+            (goes-gave-ref 𝓤 H A W 3 2 tt pair, tt),
+          ),
+        ),
+      )
       (zv-alloc-next.clauses 𝓤 H A at-mem run) (WpFn 𝓤 H (𝓣 .C) (𝓣 .Λ) code.function) (WpFn-mono 𝓤 H (W .laws) 𝓣 code.function) walks
 
 pub zv-alloc-next-spec : {M : Type 1} → stated.statement M
@@ -246,5 +287,5 @@ zv-alloc-next-spec 𝓤 H 𝓜 𝓖 𝓡 =
     code.function
     (code.unfolded 𝓤 H 𝓜 𝓡)
     (meets 𝓤 H (𝓖 .A) (givenOf 𝓤 H 𝓜 𝓖) (𝓜 .mem) (𝓡 .run) (tablesOf 𝓤 H 𝓜 tabled)
-    (cited 𝓤 H (TellNext 𝓤 H (𝓖 .A) (𝓜 .mem) (𝓡 .run)) 𝓜 𝓡 code.env #tell-next tell-next-symbol.routine code.calls-zandervlecht·tell-next
+    (cited 𝓤 H (TellNext 𝓤 H (𝓖 .A) (𝓜 .mem) (𝓡 .run)) 𝓜 𝓡 code.env #tell-next tell-next-symbol.routine code.calls-telling·tell-next
     (tell-next-met.met 𝓤 H 𝓜 𝓖 𝓡)))

@@ -67,14 +67,16 @@ loop-less c = omega (arith, named (c .before .before .before))
 loop-again : tie.Need-loop-again Inv-loop μ-loop
 loop-again c =
     let (rest, g) = named (c .before .before .before) in
-    let size = c .before .wide2 .ensures in
-    (rest, ⊎-elim
-    (λ (if2, if3, best, least). rw (best, least, size)
-    (undercut-takes _ _ _ _ _ _ _ rest g (rw (← size, le-leb _ _ (if2 .taken), if3 .taken))))
-    (λ (passed, best, least). rw (best, least)
-    (undercut-passes _ _ _ _ _ _ _ rest g
-    (⊎-elim (λ (if2, if3). rw (← size, le-leb _ _ (if2 .taken), if3 .left)) (λ if2. rw (← size, lt-leb _ _ (if2 .left))) (passed .came))))
-    (c .if2 .came))
+    let size = c .before .wide2 .ensures in (
+      rest,
+      ⊎-elim
+          (λ (if2, if3, best, least). rw (best, least, size)
+          (undercut-takes _ _ _ _ _ _ _ rest g (rw (← size, le-leb _ _ (if2 .taken), if3 .taken))))
+          (λ (passed, best, least). rw (best, least)
+          (undercut-passes _ _ _ _ _ _ _ rest g
+          (⊎-elim (λ (if2, if3). rw (← size, le-leb _ _ (if2 .taken), if3 .left)) (λ if2. rw (← size, lt-leb _ _ (if2 .left))) (passed .came))))
+          (c .if2 .came),
+    )
 
 returns-2 : tie.Need-returns-2 Inv-loop μ-loop
 returns-2 c = let (list, g) = c .before .loop .inv in undercut-exact _ _ _ _ _ list g (c .loop-test .left)

@@ -81,11 +81,13 @@ loop-less c = omega (arith, named (c .before))
 
 loop-again : tie.Need-loop-again Inv-loop μ-loop
 loop-again c =
-    let (rest, g) = named (c .before) in
-    (rest, seek-goes-on _ _ _ _ _ rest g (⊎-elim
-    (λ (if2, known, wide2, if3). rw (le-leb _ _ (if2 .taken), ← wide2 .ensures, if3 .left))
-    (λ w. rw (lt-leb _ _ (w .left)))
-    (c .if2 .came)))
+    let (rest, g) = named (c .before) in (
+      rest,
+      seek-goes-on _ _ _ _ _ rest g (⊎-elim
+          (λ (if2, known, wide2, if3). rw (le-leb _ _ (if2 .taken), ← wide2 .ensures, if3 .left))
+          (λ w. rw (lt-leb _ _ (w .left)))
+          (c .if2 .came)),
+    )
 
 returns-2 : tie.Need-returns-2 Inv-loop μ-loop
 returns-2 c =

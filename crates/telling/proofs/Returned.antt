@@ -20,7 +20,7 @@ use Rattle.answers.specs.declared.Written.{Written}
 use Rattle.answers.specs.declared.Written.the-variants.{Bytes, Refused as NotWritten}
 use Rattle.picture.specs.Writing.{Writes}
 use Rattle.picture.proofs.Promised.{writes-determined}
-use Rattle.zandervlecht.specs.Returned.{returned}
+use Rattle.telling.specs.Returned.{returned}
 
 -- ---- the answers, by their numbers
 

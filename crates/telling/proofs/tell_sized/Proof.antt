@@ -1,9 +1,9 @@
 -- `tell_sized` meets its contract: the first field is the one.
 use mathlib.Core.Path.{_∙_}
-use Rattle.zandervlecht.proofs.Returned.{sized-returned}
+use Rattle.telling.proofs.Returned.{sized-returned}
 use borrow.Author.Needs.{needs}
-use Rattle.zandervlecht.proofs.tell_sized.Statement.{statement}
-use Rattle.zandervlecht.proofs.tell_sized.Tie as tie
+use Rattle.telling.proofs.tell_sized.Statement.{statement}
+use Rattle.telling.proofs.tell_sized.Tie as tie
 
 sized-numbers-requires : tie.Need-sized-numbers-requires
 sized-numbers-requires c κs = search needs

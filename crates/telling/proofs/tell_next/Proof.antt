@@ -1,8 +1,8 @@
 -- `tell_next` meets its contract: what the call answers is told, and the rover with it.
 use borrow.Author.Needs.{needs}
 use Rattle.rules.proofs.Outcomes.{gives-as}
-use Rattle.zandervlecht.proofs.tell_next.Statement.{statement}
-use Rattle.zandervlecht.proofs.tell_next.Tie as tie
+use Rattle.telling.proofs.tell_next.Statement.{statement}
+use Rattle.telling.proofs.tell_next.Tie as tie
 
 alloc-next-requires : tie.Need-alloc-next-requires
 alloc-next-requires c κs = search needs

@@ -1,8 +1,8 @@
 -- `tell_reported` meets its contract: the four fields stand in the array.
 use borrow.Author.Needs.{needs}
-use Rattle.zandervlecht.proofs.Returned.{reported-returned}
-use Rattle.zandervlecht.proofs.tell_reported.Statement.{statement}
-use Rattle.zandervlecht.proofs.tell_reported.Tie as tie
+use Rattle.telling.proofs.Returned.{reported-returned}
+use Rattle.telling.proofs.tell_reported.Statement.{statement}
+use Rattle.telling.proofs.tell_reported.Tie as tie
 
 reported-numbers-requires : tie.Need-reported-numbers-requires
 reported-numbers-requires c κs = search needs

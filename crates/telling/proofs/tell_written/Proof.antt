@@ -1,9 +1,9 @@
 -- `tell_written` meets its contract: the first field is the one.
 use mathlib.Core.Path.{_∙_}
-use Rattle.zandervlecht.proofs.Returned.{written-returned}
+use Rattle.telling.proofs.Returned.{written-returned}
 use borrow.Author.Needs.{needs}
-use Rattle.zandervlecht.proofs.tell_written.Statement.{statement}
-use Rattle.zandervlecht.proofs.tell_written.Tie as tie
+use Rattle.telling.proofs.tell_written.Statement.{statement}
+use Rattle.telling.proofs.tell_written.Tie as tie
 
 written-numbers-requires : tie.Need-written-numbers-requires
 written-numbers-requires c κs = search needs

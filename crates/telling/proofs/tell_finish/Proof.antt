@@ -1,8 +1,8 @@
 -- `tell_finish` meets its contract: its code is all that there is.
 use borrow.Author.Needs.{needs}
-use Rattle.zandervlecht.proofs.Returned.{finish-returned}
-use Rattle.zandervlecht.proofs.tell_finish.Statement.{statement}
-use Rattle.zandervlecht.proofs.tell_finish.Tie as tie
+use Rattle.telling.proofs.Returned.{finish-returned}
+use Rattle.telling.proofs.tell_finish.Statement.{statement}
+use Rattle.telling.proofs.tell_finish.Tie as tie
 
 finish-numbers-requires : tie.Need-finish-numbers-requires
 finish-numbers-requires c κs = search needs

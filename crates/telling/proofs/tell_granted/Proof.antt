@@ -1,8 +1,8 @@
 -- `tell_granted` meets its contract: the two fields stand in the array.
 use borrow.Author.Needs.{needs}
-use Rattle.zandervlecht.proofs.Returned.{granted-returned}
-use Rattle.zandervlecht.proofs.tell_granted.Statement.{statement}
-use Rattle.zandervlecht.proofs.tell_granted.Tie as tie
+use Rattle.telling.proofs.Returned.{granted-returned}
+use Rattle.telling.proofs.tell_granted.Statement.{statement}
+use Rattle.telling.proofs.tell_granted.Tie as tie
 
 granted-numbers-requires : tie.Need-granted-numbers-requires
 granted-numbers-requires c κs = search needs

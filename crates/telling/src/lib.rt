@@ -1,0 +1,87 @@
+// What the functions for C tell their callers: the code is handed back, and the fields of the answer go into a lent
+// array.
+use answers::Finish;
+use answers::Granted;
+use answers::Numbers;
+use answers::Reported;
+use answers::Sized;
+use answers::Written;
+ghost use mathlib.Core.Path.{_≡_};
+ghost use mathlib.Core.List.{[], _∷_};
+ghost use lib.ListN.{getD};
+ghost use Rattle.rules.specs.Calls.{Roves};
+ghost use Rattle.answers.specs.Readings.{finishNumbers, grantedNumbers, sizedNumbers, reportedNumbers, writtenNumbers};
+ghost use Rattle.telling.specs.Returned.{returned};
+
+// What start, free and the reading of a picture tell: the code alone.
+pub fn tell_finish(finish: Finish) -> u32
+    ensures { λ r. ⌜ returned r [] ≡ finishNumbers finish ⌝ }
+{
+    answers::finish_numbers(finish).code
+}
+
+// A block and its granted words go into the lent array; the code is handed back.
+pub fn tell_granted(granted: Granted, answer: &mut [u32; 2]) -> u32
+    ensures { λ r. ⌜ returned r (now (answer .exit)) ≡ grantedNumbers granted ⌝ }
+{
+    let numbers = answers::granted_numbers(granted);
+    let fields = numbers.fields;
+    let block = fields[0];
+    let words = fields[1];
+    *answer = [block, words];
+    numbers.code
+}
+
+// What next fit tells: the code, and the rover afterwards.
+pub struct NextTold {
+    pub code: u32,
+    pub rover: u32,
+}
+
+// Next fit from a rover on: a block and its granted words go into the lent array, the code and the rover are handed
+// back.
+pub fn tell_next(a: &mut [u32], rover: u32, n: u32, answer: &mut [u32; 2]) -> NextTold
+    ensures { λ r. ⌜ Roves (now (a .entry)) rover n (returned (r .code) (now (answer .exit))) (now (a .exit)) (r .rover) ⌝ }
+{
+    let roved = arena::alloc_next(a, rover, n);
+    let granted = roved.granted;
+    let code = tell_granted(granted, answer);
+    NextTold {
+        code,
+        rover: roved.rover,
+    }
+}
+
+// The granted words of a block go into the lent array.
+pub fn tell_sized(sized: Sized, answer: &mut [u32; 1]) -> u32
+    ensures { λ r. ⌜ returned r (now (answer .exit)) ≡ sizedNumbers sized ⌝ }
+{
+    tell_first(answers::sized_numbers(sized), answer)
+}
+
+// The bytes of a picture go into the lent array.
+pub fn tell_written(written: Written, answer: &mut [u32; 1]) -> u32
+    ensures { λ r. ⌜ returned r (now (answer .exit)) ≡ writtenNumbers written ⌝ }
+{
+    tell_first(answers::written_numbers(written), answer)
+}
+
+// The first field goes into the lent array, which has room for one; the code is handed back.
+fn tell_first(numbers: Numbers, answer: &mut [u32; 1]) -> u32
+    ensures { λ r. ⌜ returned r (now (answer .exit)) ≡ returned (numbers .code) (getD (numbers .fields) 0 0 ∷ []) ⌝ }
+{
+    let fields = numbers.fields;
+    let first = fields[0];
+    *answer = [first];
+    numbers.code
+}
+
+// The four numbers of a report go into the lent array.
+pub fn tell_reported(reported: Reported, answer: &mut [u32; 4]) -> u32
+    ensures { λ r. ⌜ returned r (now (answer .exit)) ≡ reportedNumbers reported ⌝ }
+{
+    let numbers = answers::reported_numbers(reported);
+    let fields = numbers.fields;
+    *answer = fields;
+    numbers.code
+}
