@@ -32,7 +32,7 @@ use Rattle.answers.specs.declared.Granted.{Granted}
 use Rattle.passes.specs.Places.{placeOf}
 use Rattle.passes.specs.declared.places.Place.{Place}
 use Rattle.ways.specs.Ways.{allotting, Picked}
-use Rattle.targets.specs.Targets.{askedBy, askedFor, GrantsFrom, startIn, StartSmall}
+use Rattle.targets.specs.Targets.{askedBy, needIn, askedPast, askedFor, GrantsFrom, startIn, StartSmall}
 use Rattle.targets.specs.declared.Asked.the-variants.{Need, Refused as NotAsked}
 
 -- a spot that was picked in a sound arena starts within it
@@ -47,10 +47,10 @@ start-small a words e (a-gap pre s post gap) =
 module _ (a : List ℕ) (n : ℕ) where
   -- under every policy the call is refused for the reason
   pub ask-refused : (why : Reason) → NotAsked why ≡ askedFor a n → (policy : Policy) → Gives (allocBy policy a n) (refusal 2 why) a
-  unfolding allocBy askedFor
+  unfolding allocBy askedFor needIn
   ask-refused why e policy = go (arenaGate a) refl (requestGate (length a) n) refl e
     where
-      go : (arena : Gate) → arenaGate a ≡ arena → (request : Gate) → requestGate (length a) n ≡ request → NotAsked why ≡ askedBy arena request (need n)
+      go : (arena : Gate) → arenaGate a ≡ arena → (request : Gate) → requestGate (length a) n ≡ request → NotAsked why ≡ askedPast arena (askedBy request (need n))
           → Gives (allocBy policy a n) (refusal 2 why) a
       go (Shut r) q request h p = let is : why ≡ r = cc in rw (q, is) (record { answers = refl; leaves = refl })
       go Open q (Shut r) h p = let is : why ≡ r = cc in rw (q, h, is) (record { answers = refl; leaves = refl })
@@ -65,10 +65,10 @@ module _ (a : List ℕ) (n : ℕ) where
         → Gives (settle 2 a (granted NoRoom (allotting words (policy words (chunksOf a)) a))) answer after → Gives (allocBy policy a n) answer after
 
   pub ask-wanted : (words : ℕ) → Need words ≡ askedFor a n → Wanted words
-  unfolding allocBy askedFor
+  unfolding allocBy askedFor needIn
   ask-wanted words e = go (arenaGate a) refl (requestGate (length a) n) refl e
     where
-      go : (arena : Gate) → arenaGate a ≡ arena → (request : Gate) → requestGate (length a) n ≡ request → Need words ≡ askedBy arena request (need n)
+      go : (arena : Gate) → arenaGate a ≡ arena → (request : Gate) → requestGate (length a) n ≡ request → Need words ≡ askedPast arena (askedBy request (need n))
           → Wanted words
       go (Shut r) q request h p = absurd (let z : _≡_ {A = ℕ} 0 1 = cc in omega arith)
       go Open q (Shut r) h p = absurd (let z : _≡_ {A = ℕ} 0 1 = cc in omega arith)

@@ -24,7 +24,7 @@ use Rattle.passes.specs.declared.places.Place.the-variants.{At}
 use Rattle.passes.proofs.Finding.{FoundBlock, found-block}
 use Rattle.ways.specs.Ways.{FollowsAt}
 use Rattle.ways.specs.declared.Way.{Way}
-use Rattle.targets.specs.Targets.{locatedBy, located, targetBy, targetOf, grantedOf}
+use Rattle.targets.specs.Targets.{askedBy, needIn, locatedBy, located, targetBy, targetOf, grantedOf}
 use Rattle.targets.specs.declared.Located.{Located}
 use Rattle.targets.specs.declared.Located.the-variants.{Chunk, Refused as NotLocated}
 use Rattle.targets.specs.declared.Target.the-variants.{Block, Refused as NoTarget}
@@ -63,11 +63,11 @@ module _ (a : List ℕ) (b n : ℕ) where
   -- every call that grants block `b` anew is refused for the reason
   pub target-refused : (why : Reason) → NoTarget why ≡ targetOf a b n → (last : Reason) (rule : Regrant)
       → Gives (regrantBy last rule a b n) (refusal 2 why) a
-  unfolding regrantBy targetOf
+  unfolding regrantBy targetOf needIn
   target-refused why e last rule = go (located a b) refl (requestGate (length a) n) refl e
     where
       go : (place : Located) → located a b ≡ place → (request : Gate) → requestGate (length a) n ≡ request
-          → NoTarget why ≡ targetBy place request (need n)
+          → NoTarget why ≡ targetBy place (askedBy request (need n))
           → Gives (regrantBy last rule a b n) (refusal 2 why) a
       go (NotLocated r) q request h p =
           let is : why ≡ r = cc in
@@ -86,11 +86,11 @@ module _ (a : List ℕ) (b n : ℕ) where
         → Gives (regrantBy last rule a b n) (grantedNumbers (grantedOf last answer)) after
 
   pub target-aimed : (link chunk words : ℕ) → Block link chunk words ≡ targetOf a b n → Aimed link chunk words
-  unfolding regrantBy targetOf
+  unfolding regrantBy targetOf needIn
   target-aimed link chunk words e = go (located a b) refl (requestGate (length a) n) refl e
     where
       go : (place : Located) → located a b ≡ place → (request : Gate) → requestGate (length a) n ≡ request
-          → Block link chunk words ≡ targetBy place request (need n)
+          → Block link chunk words ≡ targetBy place (askedBy request (need n))
           → Aimed link chunk words
       go (NotLocated r) q request h p = absurd (let z : _≡_ {A = ℕ} 0 1 = cc in omega arith)
       go (Chunk at-link at-chunk) q (Shut r) h p = absurd (let z : _≡_ {A = ℕ} 0 1 = cc in omega arith)

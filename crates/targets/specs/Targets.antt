@@ -28,15 +28,23 @@ use Rattle.targets.specs.declared.Located.the-variants.{Chunk, Refused a
 use Rattle.targets.specs.declared.Target.{Target}
 use Rattle.targets.specs.declared.Target.the-variants.{Block, Refused as NoTarget}
 
--- by the arena's gate and by the request's
-abbrev pub askedBy : Gate → Gate → ℕ → Asked
-askedBy (Shut why) request need = NotAsked why
-askedBy Open (Shut why) need = NotAsked why
-askedBy Open Open need = Need need
+-- by the request's gate
+abbrev pub askedBy : Gate → ℕ → Asked
+askedBy (Shut why) need = NotAsked why
+askedBy Open need = Need need
 
--- the need of a request for `n` words, or why it is refused: the arena is looked at first, then the request
+-- the need of a request for `n` words in an arena of so many words, or why it is refused
+unfoldable pub needIn : ℕ → ℕ → Asked
+needIn words n = askedBy (requestGate words n) (need n)
+
+-- by the arena's gate
+abbrev pub askedPast : Gate → Asked → Asked
+askedPast (Shut why) asked = NotAsked why
+askedPast Open asked = asked
+
+-- the need of a request for a new block, or why it is refused: the arena is looked at first, then the request
 unfoldable pub askedFor : List ℕ → ℕ → Asked
-askedFor a n = askedBy (arenaGate a) (requestGate (length a) n) (need n)
+askedFor a n = askedPast (arenaGate a) (needIn (length a) n)
 
 -- by the arena's gate and by what the search for the block answers
 abbrev pub locatedBy : Gate → Place → Located
@@ -48,15 +56,15 @@ locatedBy Open (At link chunk) = Chunk link chunk
 unfoldable pub located : List ℕ → ℕ → Located
 located a b = locatedBy (arenaGate a) (placeOf (held b (chunksOf a)))
 
--- by where the block stands and by the request's gate
-abbrev pub targetBy : Located → Gate → ℕ → Target
-targetBy (NotLocated why) request need = NoTarget why
-targetBy (Chunk link chunk) (Shut why) need = NoTarget why
-targetBy (Chunk link chunk) Open need = Block link chunk need
+-- by where the block stands and by what is asked
+abbrev pub targetBy : Located → Asked → Target
+targetBy (NotLocated why) asked = NoTarget why
+targetBy (Chunk link chunk) (NotAsked why) = NoTarget why
+targetBy (Chunk link chunk) (Need need) = Block link chunk need
 
 -- the block and the need that a call is asked for, or why it is refused: the block is looked at first, then the request
 unfoldable pub targetOf : List ℕ → ℕ → ℕ → Target
-targetOf a b n = targetBy (located a b) (requestGate (length a) n) (need n)
+targetOf a b n = targetBy (located a b) (needIn (length a) n)
 
 -- a way as the answer of a call that grants; `why` is what the call says where it is shut
 abbrev pub grantedOf : Reason → Way → Granted

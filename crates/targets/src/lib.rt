@@ -8,8 +8,10 @@ use passes::places;
 use passes::places::Place;
 use ways::Way;
 ghost use mathlib.Core.Path.{_≡_};
+ghost use mathlib.Core.Bool.{true};
+ghost use Rattle.layout.specs.Numbers.{lawful};
 ghost use Rattle.ways.specs.Ways.{Picked};
-ghost use Rattle.targets.specs.Targets.{askedFor, located, targetOf, grantedOf, GrantsFrom, StartSmall, startIn};
+ghost use Rattle.targets.specs.Targets.{needIn, askedFor, located, targetOf, grantedOf, GrantsFrom, StartSmall, startIn};
 
 // The need of a new block; or why the request is refused.
 pub enum Asked {
@@ -17,7 +19,19 @@ pub enum Asked {
     Refused(Reason),
 }
 
-// A request for `n` words: the arena is checked, and then the request.
+// A request for `n` words in an arena of `words` words.
+fn need_in(words: usize, n: u32) -> Asked
+    requires { ⌜ lawful words ≡ true ⌝ }
+    ensures { λ r. ⌜ r ≡ needIn words n ⌝ }
+{
+    let request = layout::check_request(words, wide(n));
+    if let Gate::Shut(why) = request {
+        return Asked::Refused(why);
+    }
+    Asked::Need(layout::need(wide(n)))
+}
+
+// A request for a new block of `n` words: the arena is checked, and then the request.
 pub fn ask(a: &[u32], n: u32) -> Asked
     ensures { λ r. ⌜ r ≡ askedFor (now (a .entry)) n ⌝ }
 {
@@ -25,11 +39,7 @@ pub fn ask(a: &[u32], n: u32) -> Asked
     if let Gate::Shut(why) = arena {
         return Asked::Refused(why);
     }
-    let request = layout::check_request(a.len(), wide(n));
-    if let Gate::Shut(why) = request {
-        return Asked::Refused(why);
-    }
-    Asked::Need(layout::need(wide(n)))
+    need_in(a.len(), n)
 }
 
 // A block's chunk, and its link word; or why a call on the block is refused.
@@ -70,14 +80,10 @@ pub fn target_of(a: &[u32], b: u32, n: u32) -> Target
     let located = locate(a, b);
     match located {
         Located::Chunk { link, chunk } => {
-            let request = layout::check_request(a.len(), wide(n));
-            if let Gate::Shut(why) = request {
-                return Target::Refused(why);
-            }
-            Target::Block {
-                link,
-                chunk,
-                need: layout::need(wide(n)),
+            let asked = need_in(a.len(), n);
+            match asked {
+                Asked::Need(need) => Target::Block { link, chunk, need },
+                Asked::Refused(why) => Target::Refused(why),
             }
         }
         Located::Refused(why) => Target::Refused(why),

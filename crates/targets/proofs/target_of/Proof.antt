@@ -1,28 +1,23 @@
--- `targets::target_of` meets its contract: its block is not located, the request's gate is shut, or it is open.
-use mathlib.Core.Path.{_≡_, sym, ap, _∙_}
+-- `targets::target_of` meets its contract: its block is not located, its request is refused, or there is a need.
+use mathlib.Core.Path.{_≡_, sym, _∙_}
 use mathlib.Core.Bool.{true}
 use lib.ListN.{length}
 use borrow.Author.Needs.{needs}
 use Rattle.layout.specs.Numbers.{lawful}
-use Rattle.layout.specs.Reasons.{requestGate}
-use Rattle.layout.specs.declared.Gate.the-variants.{Open}
 use Rattle.layout.proofs.Round.{sound-lawful}
-use Rattle.rules.proofs.Gates.{gate-open, request-small}
+use Rattle.rules.proofs.Gates.{gate-open}
 use Rattle.targets.specs.Targets.{located, targetOf}
 use Rattle.targets.specs.declared.Located.the-variants.{Chunk}
 use Rattle.targets.proofs.Locating.{block-located}
 use Rattle.targets.proofs.target_of.Statement.{statement}
 use Rattle.targets.proofs.target_of.Tie as tie
 
--- ---- the places of the walk: where the call began, and where its block was located
-
+-- the places of the walk: where the call began, and where its block was located
 abbrev began : tie.After-located → tie.Start
 began c = c .before .before .before .before
 
-abbrev located-at : tie.After-check-request → tie.After-located
-located-at c = c .before .before .before
-
--- ---- what is known there
+abbrev located-at : tie.After-need-in → tie.After-located
+located-at c = c .before .before
 
 -- where the block stands
 placed : (c : tie.After-located)
@@ -33,56 +28,35 @@ placed c = sym (c .located .given .1) ∙ c .before .before .locate .ensures
 long : (c : tie.After-located) → lawful (length (began c .args .a .now)) ≡ true
 long c = sound-lawful _ (gate-open _ (sym (block-located _ _ _ _ (placed c) .0)))
 
--- what the request's gate is
-requested : (c : tie.After-check-request)
-    → let x = began (located-at c) .args in c .check-request .result ≡ requestGate (length (x .a .now)) (x .n)
-requested c = c .check-request .ensures ∙ ap (requestGate _) (c .before .wide .ensures)
-
--- it is open
-request-opens : (c : tie.After-enum-told)
-    → let x = began (located-at (c .before .before)) .args in Open ≡ requestGate (length (x .a .now)) (x .n)
-request-opens c = sym (c .enum-told .given .1) ∙ requested (c .before .before)
-
 locate-requires : tie.Need-locate-requires
 locate-requires c κs = search needs
 
 enum-known-located : tie.Need-enum-known-located
 enum-known-located c = search needs
 
-wide-requires : tie.Need-wide-requires
-wide-requires c κs = search needs
+need-in-requires : tie.Need-need-in-requires
+need-in-requires c κs = long (c .before)
 
-check-request-requires : tie.Need-check-request-requires
-check-request-requires c κs = long (c .before .before)
+enum-known-asked : tie.Need-enum-known-asked
+enum-known-asked c = search needs
 
-enum-known-request : tie.Need-enum-known-request
-enum-known-request c = search needs
-
-returns : tie.Need-returns
-unfolding targetOf
-returns c =
-    let d = c .before .before .before in
-    rw (← placed (located-at d), ← (sym (c .before .request .given .1) ∙ requested d))
-
-enum-told : tie.Need-enum-told
-enum-told c = search needs
-
-wide-requires-2 : tie.Need-wide-requires-2
-wide-requires-2 c κs = search needs
-
-need-requires : tie.Need-need-requires
-need-requires c κs =
-    let d = c .before in
-    rw (c .wide2 .ensures) (request-small _ _ (long (located-at (d .before .before))) (request-opens d))
+enum-known-asked-2 : tie.Need-enum-known-asked-2
+enum-known-asked-2 c = search needs
 
 enum-known-located-2 : tie.Need-enum-known-located-2
 enum-known-located-2 c = search needs
 
+returns : tie.Need-returns
+unfolding targetOf
+returns c =
+    let asked = c .before .before .before in
+    rw (← placed (located-at asked), ← (sym (c .before .asked .given .1) ∙ asked .need-in .ensures))
+
 returns-2 : tie.Need-returns-2
 unfolding targetOf
 returns-2 c =
-    let d = c .before .before in
-    rw (← placed (located-at (d .before .before)), ← request-opens d, c .need .ensures, c .before .wide2 .ensures)
+    let asked = c .before .before .before in
+    rw (← placed (located-at asked), ← (sym (c .before .asked2 .given .1) ∙ asked .need-in .ensures))
 
 returns-3 : tie.Need-returns-3
 unfolding targetOf
@@ -94,13 +68,10 @@ target-of-spec =
     (tie.spec
     locate-requires
     enum-known-located
-    wide-requires
-    check-request-requires
-    enum-known-request
-    returns
-    enum-told
-    wide-requires-2
-    need-requires
+    need-in-requires
+    enum-known-asked
+    enum-known-asked-2
     enum-known-located-2
+    returns
     returns-2
     returns-3)

@@ -58,10 +58,11 @@ first-fit-requires c κs = search needs
 
 returns : tie.Need-returns Inv-loop μ-loop
 returns c =
-    let d = c .before .before .before .before in
+    let over = c .before in
+    let d = over .before .before .before in
     let x = d .before .before .args in
     let (list, g) = d .loop .inv in
-    let e = chain-ends _ _ list (g .leads) (sym (c .before .before .wide .ensures) ∙ c .before .if1 .taken) in
+    let e = chain-ends _ _ list (g .leads) (sym (over .before .wide .ensures) ∙ over .if1 .taken) in
     c .first-fit .ensures ∙ ap placeOf (found-round (x .rover) (x .need) (chunksOf (x .a .now)) (rw e at (g .goes)))
 
 mul-wide-2 : tie.Need-mul-wide-2 Inv-loop μ-loop
