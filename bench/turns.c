@@ -130,6 +130,10 @@ const struct turn timed_turns[TURN_KINDS] = {
     {"report", make_report, 1, 0, ZV_DONE, 0, ANYTHING, 0},
     {"alloc refused", make_refused, 1, 0, ZV_NO_ROOM, 0, ANYTHING, 0},
     {"alloc and free", make_pair, 2, 0, ZV_DONE, 1, ANYTHING, 0},
+    {"alloc_best refused", make_best_refused, 1, 0, ZV_NO_ROOM, 0, ANYTHING, 0},
+    {"alloc_best and free", make_best_pair, 2, 0, ZV_DONE, 1, ANYTHING, 0},
+    {"alloc_next refused", make_next_refused, 1, 0, ZV_NO_ROOM, 0, ANYTHING, 0},
+    {"alloc_next and free", make_next_pair, 2, 0, ZV_DONE, 1, ANYTHING, 0},
     {"resize, kept", make_kept_resize, 1, 0, ZV_DONE, 0, ANYTHING, 0},
     {"resize, to and fro", make_resize, 2, 0, ZV_DONE, 1, A_GAP, LEAST_SPLIT},
     {"realloc, kept", make_kept_realloc, 1, 0, ZV_DONE, 0, ANYTHING, 0},
@@ -153,6 +157,12 @@ static uint32_t alloc_request(enum filling filling, uint32_t largest)
     default:
         return largest;
     }
+}
+
+/* Whether the turn is a new block, granted by one of the fits and freed again. */
+static int is_pair(const struct turn *turn)
+{
+    return turn->make == make_pair || turn->make == make_best_pair || turn->make == make_next_pair;
 }
 
 /* Whether this turn, when it was made a few times with this part, moves what it should and brings the arena back. */
@@ -198,9 +208,9 @@ int choose_part(const struct turn *turn, uint32_t *arena, size_t words, enum fil
         if (!is_candidate(turn, arena, starts, i, count))
             continue;
         *part = (struct part){.block = (uint32_t)starts[i] + HEADER, .there = granted + turn->more, .back = granted};
-        if (turn->make == make_pair)
+        if (is_pair(turn))
             part->there = alloc_request(filling, report[ZV_LARGEST]);
-        if (turn->make == make_refused)
+        if (turn->codes == ZV_NO_ROOM)
             part->there = report[ZV_LARGEST] + 1;
         memcpy(tried, arena, words * sizeof *arena);
         if (comes_back(turn, tried, words, part)) {

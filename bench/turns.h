@@ -35,7 +35,7 @@ struct turn {
     uint32_t more;
 };
 
-enum { TURN_KINDS = 10 };
+enum { TURN_KINDS = 14 };
 
 /* The turns that are timed. */
 extern const struct turn timed_turns[TURN_KINDS];

@@ -7,7 +7,7 @@ from random import Random
 from support import arenas, batches, c_programs, cases, driver, model, pictures, programs
 from support.batches import ALLOC, FREE, REALLOC, RELOCATE, RESIZE, SIZE, Answer, Case, Record
 from support.comparing import compare_own_cases, run_cases, run_rows
-from test_call_rows import SHORT_GAP, counted, words
+from test_call_rows import NO_ARENAS, SHORT_GAP, counted, words
 from test_damaged_arenas import asked_for, block_for
 
 BATCHES = 3000
@@ -23,7 +23,7 @@ ROUNDS = 7
 MANY_ROUNDS = 1650
 
 # Numbers of no kind, some of which are like a kind's in their lowest bits.
-NO_KINDS = [0, 7, 8, 11, 255, 256, 257, 258, 261, 2**16 + 2, 2**24 + 6, 2**31 + 3, 2**32 - 2, 2**32 - 1]
+NO_KINDS = [0, 7, 8, 11, 12, 255, 256, 257, 258, 261, 2**16 + 2, 2**24 + 6, 2**31 + 3, 2**32 - 2, 2**32 - 1]
 
 # What a number that is not used can hold, blocks' numbers among others; and what an answer held before.
 UNUSED = [0, 4, 14, 2**32 - 1]
@@ -87,16 +87,6 @@ LAB_AFTER = (f"64 12 | 10 live {counted(4, 11)}"
              f" | 36 live 1062 1063 {counted(48, 51)} 12 0 1054 1055 8 0 {counted(58, 63)}"
              f"   1040 1041 22 0 {counted(44, 47)} 8 0 1050 1051 12 0 1054 1055"
              f" | 8 live {counted(44, 47)} 1062 1063")
-
-# Arenas that are none: damaged, and of lengths that no arena has.
-NO_ARENAS = [
-    (2, "16 0 | 6 live 1004 1005 1006 1007 | 4 0 1010 1011 | 4 live 1014 1015"),
-    (2, "6 2 | 6 0 1004 1005"),
-    (1, "15 8 | 6 live 1004 1005 1006 1007 | 4 0 1010 1011 | 3 live 1014"),
-    (1, "5 2 | 3 0 1004"),
-    (1, "2 2"),
-    (1, ""),
-]
 
 # What a run must have met to mean anything: every kind with every code that it can give.
 CODES = {"alloc": (0, 1, 2, 4, 5, 6), "free": (0, 1, 2, 3), "realloc": (0, 1, 2, 3, 4, 5, 6),

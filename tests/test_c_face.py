@@ -4,11 +4,16 @@ import os
 
 import test_call_rows
 import test_damaged_arenas
+import test_fit_rows
+import test_fit_runs
 import test_pictures
 from support import c_programs, driver, programs
 from support.comparing import run_lines
 
 CALLS = 20000
+
+# The drivers whose cases and rows are made through C.
+DRIVERS = [test_damaged_arenas, test_call_rows, test_fit_rows, test_fit_runs, test_pictures]
 
 # The examples, each with the words behind the command that runs it: the first is run without a name.
 EXAMPLES = {"sampling": [], "experiment": ["experiment"]}
@@ -31,13 +36,13 @@ def build(root, name):
 
 
 def compare(chosen):
-    """The examples, then the cases and the rows of three other drivers; the last line has what these say."""
+    """The examples, then the cases and the rows of other drivers; the last line has what these say."""
     try:
         chosen.cases, chosen.picture_cases = build(chosen.root, "c_cases"), build(chosen.root, "c_pictures")
     except c_programs.NotHere as told:
         return f"nothing was compared{c_programs.skipped([str(told)])}"
     lines = sum(compare_example(chosen.root, name) for name in EXAMPLES)
-    told = [each.compare(chosen) for each in (test_damaged_arenas, test_call_rows, test_pictures)]
+    told = [each.compare(chosen) for each in DRIVERS]
     return "; ".join([*told, f"{len(EXAMPLES)} examples printed their {lines} lines"])
 
 

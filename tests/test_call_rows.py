@@ -11,6 +11,16 @@ from support.comparing import run_rows
 BESIDE_FREE = "18 12 | 10 live 1004 1005 1006 1007 1008 1009 1010 1011 | 6 0 1014 1015 1016 1017"
 SHORT_GAP = "16 8 | 6 live 1004 1005 1006 1007 | 4 0 1010 1011 | 4 live 1014 1015"
 
+# Arenas that are none: damaged, and of lengths that no arena has.
+NO_ARENAS = [
+    (2, "16 0 | 6 live 1004 1005 1006 1007 | 4 0 1010 1011 | 4 live 1014 1015"),
+    (2, "6 2 | 6 0 1004 1005"),
+    (1, "15 8 | 6 live 1004 1005 1006 1007 | 4 0 1010 1011 | 3 live 1014"),
+    (1, "5 2 | 3 0 1004"),
+    (1, "2 2"),
+    (1, ""),
+]
+
 
 def words(text):
     """The words of an arena as they are written here: a bar before each chunk, `live` for the mark of a live one."""
@@ -429,17 +439,23 @@ def long_gap_rows():
     yield reported(before, (16378, 8194, 1, 2))
 
 
-def lost_list_rows():
-    """A list that leaves out a free chunk, falls, goes round, or leads to a live chunk or elsewhere is damage.
+def lost_lists():
+    """Arenas whose list leaves out a free chunk, falls, goes round, or leads to a live chunk or elsewhere.
 
-    Each row has word 1 and the links of the two free chunks; 2, 12 and 0 would be right. Then come two free
-    neighbours, rightly linked, and an odd length, whose reason comes first.
+    Each has word 1 and the links of the two free chunks; 2, 12 and 0 would be right. Then come two free neighbours,
+    rightly linked.
     """
     for list_word, left, right in ((0, 12, 0), (12, 12, 0), (12, 0, 2), (2, 0, 0), (2, 12, 2), (2, 12, 12), (2, 8, 0),
                                    (2, 14, 0)):
         chunks = f"6 {left} 1004 1005 1006 1007 | 4 live 1010 1011 | 6 {right} 1014 1015 1016 1017"
-        yield refused(REPORT, 0, 0, f"18 {list_word} | {chunks}", 2)
-    yield refused(REPORT, 0, 0, "14 2 | 4 6 1004 1005 | 4 0 1008 1009 | 4 live 1012 1013", 2)
+        yield f"18 {list_word} | {chunks}"
+    yield "14 2 | 4 6 1004 1005 | 4 0 1008 1009 | 4 live 1012 1013"
+
+
+def lost_list_rows():
+    """A list that is not the free chunks in rising order is damage; the reason of an odd length comes first."""
+    for before in lost_lists():
+        yield refused(REPORT, 0, 0, before, 2)
     yield refused(REPORT, 0, 0, "15 8 | 6 live 1004 1005 1006 1007 | 4 0 1010 1011 | 3 live 1014", 1)
 
 

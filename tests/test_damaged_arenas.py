@@ -3,26 +3,27 @@
 from collections import Counter
 from random import Random
 
-from support import arenas, cases, driver, model, over
+from support import arenas, cases, driver, fits, model, over
 from support.comparing import run_cases
 from support.pupil import way
 
-CALLS = 150000
+CALLS = 170000
 AT_ONCE = 4000
 BATCHES = 10
 BIG = [0, 1, 2, 65536, 65540, 2**31 - 1, 2**31, 2**32 - 4, 2**32 - 3, 2**32 - 2, 2**32 - 1]
 
 # Numbers of no call, some of which are like a call's in their lowest bits.
-NO_CALLS = [0, 11, 12, 257, 258, 265, 266, 2**16 + 2, 2**31 + 3, 2**32 - 1]
+NO_CALLS = [0, 13, 14, 257, 258, 265, 266, 267, 268, 2**16 + 2, 2**16 + 12, 2**31 + 3, 2**32 - 1]
 
 # What a run must have met to mean anything: every call with every code that it can give.
 CODES = {"start": (0, 1), "alloc": (0, 1, 2, 4, 5, 6), "free": (0, 1, 2, 3), "realloc": (0, 1, 2, 3, 4, 5, 6),
          "report": (0, 1, 2), "size": (0, 1, 2, 3), "view": (0,), "view_mut": (0,), "another": (7,),
-         "resize": (0, 1, 2, 3, 4, 5, 8), "relocate": (0, 1, 2, 3, 4, 5, 6)}
+         "resize": (0, 1, 2, 3, 4, 5, 8), "relocate": (0, 1, 2, 3, 4, 5, 6), "alloc_best": (0, 1, 2, 4, 5, 6),
+         "alloc_next": (0, 1, 2, 4, 5, 6)}
 PARTS = ("view empty", "view whole", "view_mut empty", "view_mut whole")
 
 # And every way to be done, with the change it makes in the number of free chunks.
-WAYS = {"alloc": (-1, 0), "free": (-1, 0, 1),
+WAYS = {"alloc": (-1, 0), "alloc_best": (-1, 0), "alloc_next": (-1, 0), "free": (-1, 0, 1),
         "realloc kept": (0,), "realloc cut": (0, 1), "realloc grown": (-1, 0), "realloc moved": (-2, -1, 0, 1),
         "resize kept": (0,), "resize cut": (0, 1), "resize grown": (-1, 0),
         "relocate longer": (-2, -1, 0, 1), "relocate shorter": (-2, -1, 0, 1), "relocate equal": (-2, -1, 0, 1)}
@@ -83,14 +84,24 @@ def cases_for(random, number):
     """A call with its numbers and its arena, or three calls together."""
     arena = arenas.arena_for(random, number)
     call = random.choice([cases.START, cases.REPORT, cases.SIZE, cases.VIEW, cases.VIEW_MUT, 0]
-                         + [cases.ALLOC, cases.FREE] * 3 + [cases.REALLOC] * 6)
-    if call == 0:
-        call = random.choice([*NO_CALLS, cases.ALLOC, cases.REALLOC])
-    return cases_on(random, arena, call)
+                         + [cases.ALLOC] * 2 + [cases.FREE] * 3 + [cases.REALLOC] * 6)
+    return cases_on(random, arena, call or random.choice(NO_CALLS))
+
+
+def fits_on(random, arena):
+    """The three fits on this arena, with some rover and request."""
+    rover = fits.rover_for(random, len(arena.words), [piece.start for piece in arena.chunks])
+    asked = asked_for(random, arena)
+    return [cases.Case(call, rover, asked, arena.words) for call in cases.FITS]
 
 
 def cases_on(random, arena, call):
-    """The call on this arena with some numbers; a realloc comes together with the two calls that it is made of."""
+    """The call on this arena with some numbers; a realloc comes together with the two calls that it is made of.
+
+    An alloc comes together with the two other fits.
+    """
+    if call == cases.ALLOC:
+        return fits_on(random, arena)
     block = block_for(random, arena)
     asked = asked_for_block(random, arena, block)
     calls = cases.TOGETHER if call == cases.REALLOC else [call]
@@ -98,19 +109,28 @@ def cases_on(random, arena, call):
 
 
 def short_cases(random, count):
-    """An alloc, and the three calls for each block, on so many arenas of short blocks and gaps: few words are over."""
+    """The fits, and three calls for each block, on so many arenas of short blocks and gaps: few words are over."""
     for _ in range(count):
         arena = arenas.short_arena(random)
-        yield cases.Case(cases.ALLOC, 0, asked_for(random, arena), arena.words)
+        yield from fits_on(random, arena)
         for block in [piece.start + model.HEADER for piece in arena.chunks if piece.live]:
             asked = asked_for_block(random, arena, block)
             yield from (cases.Case(call, block, asked, arena.words) for call in cases.TOGETHER)
 
 
+def gapped_cases(random, count):
+    """The fits, with two requests and two rovers, on so many arenas of several gaps, where they often part."""
+    for _ in range(count):
+        arena = arenas.gapped_arena(random)
+        for _ in range(2):
+            yield from fits_on(random, arena)
+
+
 def long_cases(random, count):
-    """The three calls and a report on so many arenas of long blocks and gaps: some moves copy thousands of words."""
+    """The fits, three calls and a report on so many arenas of long blocks and gaps: some move thousands of words."""
     for _ in range(count):
         arena = arenas.long_arena(random)
+        yield from fits_on(random, arena)
         yield from cases_on(random, arena, cases.REALLOC)
         yield cases.Case(cases.REPORT, 0, 0, arena.words)
 
@@ -157,7 +177,7 @@ def met_by(case, answer):
     yield name, "code", answer.code
     if case.call in (cases.VIEW, cases.VIEW_MUT):
         yield f"{name} {'whole' if answer.part else 'empty'}"
-    if case.call in (cases.ALLOC, cases.FREE, *cases.TOGETHER) and answer.code == model.DONE:
+    if case.call in (*cases.FITS, cases.FREE, *cases.TOGETHER) and answer.code == model.DONE:
         yield from met_by_done(case, answer)
 
 
@@ -173,9 +193,11 @@ def met_by_done(case, answer):
 
 
 def met_together(asked, answers):
-    """The codes of each three calls that were asked together."""
-    for at in cases.asked_together(asked):
+    """The codes of each three calls that were asked together, and what the fits show besides."""
+    for at in cases.asked_together(asked, cases.TOGETHER):
         yield "together", tuple(answer.code for answer in answers[at:at + 3])
+    for at in cases.asked_together(asked, cases.FITS):
+        yield from fits.met_by(asked[at], answers[at:at + 3])
 
 
 def unfinished(random, number):
@@ -189,12 +211,12 @@ def unfinished(random, number):
 def wanted():
     """What a run has to meet: codes of one call and of three together, ways to be done, words over, gaps taken, views.
 
-    How many words are over, and where, is told in over.py.
+    How many words are over, and where, is told in over.py; what the three fits have to show, in fits.py.
     """
     codes = [(name, "code", code) for name, codes in CODES.items() for code in codes]
     ways = [(way, "free chunks", change) for way, changes in WAYS.items() for change in changes]
     together = [("together", codes) for codes in cases.CODES_TOGETHER]
-    return [*codes, *ways, *together, *over.WANTED, *GAPS, *COPIED, *PARTS]
+    return [*codes, *ways, *together, *over.WANTED, *fits.WANTED, *GAPS, *COPIED, *PARTS]
 
 
 def compare(chosen):
@@ -207,8 +229,9 @@ def compare(chosen):
         numbers = range(done, done + min(AT_ONCE, max(chosen.count // BATCHES, 1)))
         asked = [case for number in numbers for case in cases_for(random, number)]
         asked += full_cases(random) if batch == BATCHES - 1 else []
-        asked += short_cases(random, len(numbers) // 20)
-        asked += long_cases(random, len(numbers) // 50)
+        asked += short_cases(random, len(numbers) // 15)
+        asked += gapped_cases(random, len(numbers) // 20)
+        asked += long_cases(random, len(numbers) // 45)
         answers = [cases.answer_to(case) for case in asked]
         run_cases(chosen.cases, asked, answers, unfinished(random, batch))
         for case, answer in zip(asked, answers):

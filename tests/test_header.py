@@ -10,11 +10,14 @@ from support.comparing import run_lines
 LANGUAGES = ["c99", "c11", "c++11"]
 ALONE = """#include "zandervlecht.h"
 #include "zandervlecht.h"
-static uint32_t arena[ZV_LEAST_WORDS];
-static struct zv_request request = {ZV_ALLOC, 0, 1, ZV_FRAME, 0, 0};
+static uint32_t arena[ZV_LEAST_WORDS], answer[2];
+static struct zv_rover rover = {0};
+static struct zv_request request = {ZV_FREE, 0, 0, ZV_FRAME, 0, 0};
 int main(void)
 {
     zv_start(arena, ZV_LEAST_WORDS);
+    zv_alloc_next(arena, ZV_LEAST_WORDS, &rover, 1, answer);
+    request.b = answer[ZV_BLOCK];
     zv_batch(arena, ZV_LEAST_WORDS, &request, 1);
     return (int)request.code;
 }
@@ -27,7 +30,7 @@ INDEX_BEGINS = 68
 
 
 def compile_alone(root, language):
-    """Builds the program of a language, and runs it: it ends with status 0 where a request on its arena was done."""
+    """Builds the program of a language, and runs it: it ends with status 0 where a block was granted and freed."""
     command = c_programs.build_text("alone_" + language, language, ALONE, root)
     run_lines(command, b"", expected=b"")
 

@@ -1,13 +1,17 @@
 """Holds grants, frees and reports on arenas of up to 26 words to the model: every list of chunks, block and request.
 
 Each list of chunks that fills an arena of such a length comes once, with its other words filled in one way. With 26
-words eight can be split off between two free chunks, before a live one: free 4, live 12, live 4, free 4.
+words eight can be split off between two free chunks, before a live one: free 4, live 12, live 4, free 4. Where there
+are two free chunks or three, next fit is asked with every rover up to two words above the end.
 """
 
 from support import arenas, cases, driver, model
 from support.comparing import run_cases
 
 LONGEST = 26
+
+# In arenas of up to so many words next fit is asked with every rover where there is a single free chunk, too.
+EVERY_ROVER = 16
 
 # More calls than there are on all these arenas: with a smaller --count it ends with a shorter length.
 ALL = 10**6
@@ -23,15 +27,25 @@ def layouts(start, length, after_free):
                 yield [arenas.Piece(start, size, live), *rest]
 
 
+def next_cases_on(words, gaps):
+    """Next fit on an arena with free chunks of these sizes: each need that one of them has, with every rover."""
+    if len(gaps) > 1 or len(words) <= EVERY_ROVER:
+        for asked in range(1, max(gaps, default=0) - model.HEADER, 2):
+            for rover in range(len(words) + 3):
+                yield cases.Case(cases.ALLOC_NEXT, rover, asked, words)
+
+
 def cases_on(length, pieces):
     """On an arena of these chunks: a report, a free of each chunk, and every request from 0 to one too large.
 
-    The requests are made of the arena and of each of its chunks, the free ones too.
+    The requests are made of the arena, of which the fits have the number asked for as the rover, and of each of its
+    chunks, the free ones too.
     """
     words = [1000 + at for at in range(length)]
     arenas.store_headers(words, pieces)
+    yield from next_cases_on(words, [piece.size for piece in pieces if not piece.live])
     for asked in range(length - 2):
-        yield cases.Case(cases.ALLOC, 0, asked, words)
+        yield from (cases.Case(call, asked, asked, words) for call in cases.FITS)
         for piece in pieces:
             for call in cases.TOGETHER:
                 yield cases.Case(call, piece.start + model.HEADER, asked, words)

@@ -1,13 +1,15 @@
 """Shows that the comparers complain, and the drivers of names and of long runs: each has to see what is wrong.
 
-The other drivers are tried by test_teeth_rows.py, test_teeth_arenas.py, test_teeth_pictures.py and test_teeth_c.py.
+The other drivers are tried by test_teeth_rows.py, test_teeth_arenas.py, test_teeth_pictures.py, test_teeth_fits.py and
+test_teeth_c.py.
 """
 
 import glob
 import os
 
-from support import batches, cases, driver, lines, model, picture_cases, pictures, programs, spoiling, teeth
-from support import spoiled_batch, spoiled_c, spoiled_desk, spoiled_drawing, spoiled_headers, spoiled_pages
+from support import batches, cases, driver, ledger, lines, model, picture_cases, pictures, programs, spoiling, teeth
+from support import spoiled_batch, spoiled_c, spoiled_desk, spoiled_drawing, spoiled_fits, spoiled_headers
+from support import spoiled_pages
 from support.comparing import compare_answers, compare_replies, compare_together
 
 LINES = b"010020\n020005\n020001\n05\n03001A\n0Z\n"
@@ -19,6 +21,11 @@ PICTURE = [picture_cases.Case(picture_cases.WRITE, bytes(range(125)), SOUND),
 BATCHES = [batches.Case([batches.Record(batches.ALLOC, 5, 2, 6, 7, 8), batches.Record(0, 5, 2, 6, 7, 8)], [9], SOUND),
            batches.Case([], [], SOUND[:5]), batches.Case([batches.Record(batches.SIZE, 4, 5, 6, 7, 8)], [], SOUND)]
 BETWEEN_LIVE = [16, 2, 6, 0, 71, 72, 73, 74, 4, 4294967295, 75, 76, 4, 4294967295, 77, 78]
+THREE_GAPS = [26, 2, 6, 12, 71, 72, 73, 74, 4, 4294967295, 75, 76, 4, 20, 77, 78, 4, 4294967295, 79, 80, 6, 0, 81, 82,
+              83, 84]
+
+# What the ledger of the first of these arenas has.
+HELD = {4: [77, 78]}
 
 
 def complains(comparer, *arguments):
@@ -61,9 +68,9 @@ def wrong_answers(true):
     yield "nothing at all", b""
 
 
-def together(block, asked, words):
+def together(block, asked, words, calls=cases.TOGETHER):
     """Three calls asked together on these words, and the true replies to them."""
-    three = [cases.Case(call, block, asked, words) for call in cases.TOGETHER]
+    three = [cases.Case(call, block, asked, words) for call in calls]
     return three, [cases.reply_bytes(cases.answer_to(case)) for case in three]
 
 
@@ -81,6 +88,52 @@ def wrong_together():
     yield "a resize that would move what is too large", three, [refused, too_large, too_large]
 
 
+def replaced(reply, place, number):
+    """A reply with another word in one place: 0 is the code's, 1 to 4 are those of the fields."""
+    return reply[:4 * place] + cases.packed([number]) + reply[4 * place + 4:]
+
+
+def wrong_fits():
+    """The three fits asked together, and replies to them of which one or more are wrong."""
+    three, (first, best, following) = together(13, 2, THREE_GAPS, cases.FITS)
+    yield "a best fit below first fit", three, [best, first, following]
+    yield "a next fit below first fit", three, [best, best, replaced(first, 3, 2)]
+    yield "another word in the same block", three, [first, replaced(first, 30, 5), following]
+    yield "another rover than the chunk's start", three, [first, best, replaced(following, 3, 22)]
+    yield "a rover outside the arena", three, [first, best, replaced(following, 3, 26)]
+    yield "a chunk below the rover that is not first fit's", three, [first, best, replaced(best, 3, 12)]
+    three, (refused, *_, unmoved) = together(13, 5, THREE_GAPS, cases.FITS)
+    yield "a fit that is refused alone", three, [first, refused, following]
+    yield "a refusal that moves the rover", three, [refused, refused, replaced(unmoved, 3, 12)]
+    yield "a refusal with other words", three, [refused, replaced(refused, 30, 5), unmoved]
+    yield "a reason that no fit has", three, [replaced(reply, 0, 3) for reply in (refused, refused, unmoved)]
+
+
+def wrong_notes():
+    """Calls on an arena whose ledger has one block, and answers that no ledger allows."""
+    asked = {call: cases.Case(call, 4, 3, SOUND) for call in (*cases.FITS, cases.FREE, cases.RELOCATE, cases.REPORT)}
+    true = {call: cases.answer_to(case) for call, case in asked.items()}
+    lost = [*SOUND[:4], 70, *SOUND[5:]]
+    for call in cases.FITS:
+        yield "a block that overlaps another", asked[call], true[call]._replace(fields=(4, 4, 2))
+        yield "a block that overlaps the end", asked[call], true[call]._replace(fields=(10, 4, 2))
+        yield "a refusal though a gap has the need", asked[call], model.Answer(6, (0, 0, 0), [], SOUND)
+        yield "a grant though no gap has the need", asked[call]._replace(asked=5), true[call]
+        yield "a changed word of a holder", asked[call], true[call]._replace(words=lost)
+        yield "a changed word at a refusal", asked[call]._replace(asked=5), model.Answer(6, (0, 0, 0), [], lost)
+    yield "a move without the words", asked[cases.RELOCATE], true[cases.RELOCATE]._replace(words=SOUND)
+    yield "a free of a block that is held, refused", asked[cases.FREE], model.Answer(3, (), [], SOUND)
+    yield "a free of a block that is not held", asked[cases.FREE]._replace(block=8), true[cases.FREE]
+    yield "another sum of words", asked[cases.REPORT], true[cases.REPORT]._replace(fields=(8, 4, 1, 1))
+
+
+def judged_notes():
+    """Whether the ledger complains about each wrong answer, and takes the true ones."""
+    for what, case, wrong in wrong_notes():
+        yield f"by the ledger: {what}", complains(ledger.noted, HELD, case, wrong)
+        yield f"by the ledger: no {what}", not complains(ledger.noted, HELD, case, cases.answer_to(case))
+
+
 def judged_answers(form, asked):
     """Whether each wrong output for these cases of a form is seen, and the true one taken."""
     answers = [form.answer_to(case) for case in asked]
@@ -96,9 +149,12 @@ def check_comparers():
     tried = [(what, complains(compare_replies, LINES, replies, wrong)) for what, wrong in wrong_replies(replies)]
     tried += [("the true replies", not complains(compare_replies, LINES, replies, replies))]
     tried += [*judged_answers(cases, CASES), *judged_answers(picture_cases, PICTURE), *judged_answers(batches, BATCHES)]
-    tried += [(what, complains(compare_together, three, b"".join(wrong))) for what, three, wrong in wrong_together()]
-    for three, true in (together(4, 3, SOUND), together(10, 3, BETWEEN_LIVE)):
+    for what, three, wrong in [*wrong_together(), *wrong_fits()]:
+        tried += [(what, complains(compare_together, three, b"".join(wrong)))]
+    for three, true in (together(4, 3, SOUND), together(10, 3, BETWEEN_LIVE), together(13, 2, THREE_GAPS, cases.FITS),
+                        together(21, 2, THREE_GAPS, cases.FITS), together(13, 5, THREE_GAPS, cases.FITS)):
         tried += [("the true replies together", not complains(compare_together, three, b"".join(true)))]
+    tried += judged_notes()
     tried += [("a board that keeps other chunks than its words have", complains(keep_other_chunks))]
     wrong_about = [what for what, right in tried if not right]
     if wrong_about:
@@ -110,8 +166,8 @@ def check_all_tried():
     """Each driver is tried by a row of faults, or on spoiled copies, but for those that try the others."""
     named = {os.path.basename(path)[:-len(".py")] for path in glob.glob(os.path.join(programs.TESTS, "test_*.py"))}
     tried = {trial.driver for trial in teeth.ROWS + teeth.LINES + teeth.ARENAS + teeth.PICTURES}
-    tried |= {spoiled.DRIVER for spoiled in (spoiled_pages, spoiled_drawing, spoiled_headers, spoiled_c, spoiled_batch,
-                                             spoiled_desk)}
+    tried |= {spoiled.DRIVER for spoiled in (spoiled_pages, spoiled_drawing, spoiled_fits, spoiled_headers, spoiled_c,
+                                             spoiled_batch, spoiled_desk)}
     untried = sorted(name for name in named - tried if not name.startswith("test_teeth"))
     if untried:
         raise driver.Difference(f"nothing tries whether these complain: {untried}")

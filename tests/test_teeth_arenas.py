@@ -1,4 +1,4 @@
-"""Shows that the drivers of single calls on many arenas complain: each has to see every fault of a program."""
+"""Shows that the drivers of calls on many arenas complain, single ones or in runs: each has to see every fault."""
 
 from support import driver, teeth
 

@@ -92,6 +92,12 @@ def short_arena(random):
     return arena_of(random, FIRST_CHUNK + sum(sizes), pieces_of(random, sizes, 0.5))
 
 
+def gapped_arena(random):
+    """A sound arena of 3 to 15 chunks of few sizes, most of every second one free: some free ones are as large."""
+    sizes = random.choices([random.randrange(LEAST_CHUNK, 30, 2) for _ in range(3)], k=random.randint(3, 15))
+    return arena_of(random, FIRST_CHUNK + sum(sizes), pieces_of(random, sizes, 0.1))
+
+
 def long_arena(random):
     """A sound arena of 128 to 16,384 words in a few chunks, most of them long."""
     length = 2 * random.randrange(64, 2 ** random.randint(7, 13) + 1)

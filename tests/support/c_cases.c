@@ -1,7 +1,7 @@
 /*
  * The calls for C on any arena, for the tests: it speaks as the program cases does (cases.py says how). Its words are
- * the machine's own, on x86-64 the low byte first. It ends where a case is cut short or too long. Around each arena and
- * each answer lie guard bytes (rooms.h).
+ * the machine's own, on x86-64 the low byte first. It ends where a case is cut short or too long. Around each arena,
+ * each answer and each rover lie guard bytes (rooms.h).
  */
 #define PROGRAM "c_cases"
 
@@ -11,15 +11,22 @@
 #include "rooms.h"
 
 /* What is done wrong on purpose, for the tests to see, with such as -DFAULT=SWAPPED_FIELDS. */
-enum fault { NONE, SWAPPED_FIELDS, FIELD_OF_REFUSAL, BEFORE_ANSWER, BEHIND_ANSWER, BEFORE_ARENA, BEHIND_ARENA };
+enum fault {
+    NONE, SWAPPED_FIELDS, FIELD_OF_REFUSAL, BEFORE_ANSWER, BEHIND_ANSWER, BEFORE_ARENA, BEHIND_ARENA, BEST_AS_FIRST,
+    NEXT_AS_FIRST, ROVER_IGNORED, ROVER_KEPT, ROVER_AT_BLOCK, ROVER_AT_GRANT, ROVER_OF_REFUSAL, BEFORE_ROVER,
+    BEHIND_ROVER
+};
 #ifndef FAULT
 #define FAULT NONE
 #endif
 
-enum call { START = 1, ALLOC, FREE, REALLOC, REPORT, SIZE, VIEW, VIEW_MUT, RESIZE, RELOCATE };
-enum { FIELDS = 4, LONGEST_CASE = 16400 };
+enum call { START = 1, ALLOC, FREE, REALLOC, REPORT, SIZE, VIEW, VIEW_MUT, RESIZE, RELOCATE, ALLOC_BEST, ALLOC_NEXT };
+enum { FIELDS = 4, LONGEST_CASE = 16400, HEADER_WORDS = 2 };
 
-/* The words before an arena in a case. */
+/* The field in which the reply to an alloc_next has the rover after the call, behind those of the answer. */
+enum { ROVER_FIELD = 2 };
+
+/* The words before an arena in a case; b is the rover of an alloc_next. */
 struct question {
     uint32_t call, b, n, words;
 };
@@ -33,20 +40,30 @@ struct reply {
 static size_t field_count(uint32_t call)
 {
     switch (call) {
-    case ALLOC: case RESIZE: case RELOCATE: case REALLOC: return 2;
+    case ALLOC: case ALLOC_BEST: case ALLOC_NEXT: case RESIZE: case RELOCATE: case REALLOC: return 2;
     case SIZE: case VIEW: case VIEW_MUT: return 1;
     case REPORT: return 4;
     default: return 0;
     }
 }
 
+/* The call that is made: the one that is asked or, where that is the fault, another. */
+static uint32_t call_made(uint32_t asked)
+{
+    if ((FAULT == BEST_AS_FIRST && asked == ALLOC_BEST) || (FAULT == NEXT_AS_FIRST && asked == ALLOC_NEXT))
+        return ALLOC;
+    return asked;
+}
+
 /* Makes a call and gives its code. */
-static uint32_t made(const struct question *asked, uint32_t *arena, uint32_t *answer)
+static uint32_t made(const struct question *asked, uint32_t *arena, struct zv_rover *rover, uint32_t *answer)
 {
     size_t words = asked->words;
-    switch (asked->call) {
+    switch (call_made(asked->call)) {
     case START: return zv_start(arena, words);
     case ALLOC: return zv_alloc(arena, words, asked->n, answer);
+    case ALLOC_BEST: return zv_alloc_best(arena, words, asked->n, answer);
+    case ALLOC_NEXT: return zv_alloc_next(arena, words, rover, asked->n, answer);
     case FREE: return zv_free(arena, words, asked->b);
     case REALLOC: return zv_realloc(arena, words, asked->b, asked->n, answer);
     case REPORT: return zv_report(arena, words, answer);
@@ -57,10 +74,32 @@ static uint32_t made(const struct question *asked, uint32_t *arena, uint32_t *an
     }
 }
 
-/* Makes a call and, where a fault is asked for, does wrong what a call could. */
-static uint32_t made_with_fault(const struct question *asked, uint32_t *arena, uint32_t *answer)
+/* Makes a call and, where a fault is asked for, does wrong with the rover what an alloc_next could. */
+static uint32_t made_with_rover(const struct question *asked, uint32_t *arena, struct zv_rover *rover, uint32_t *answer)
 {
-    uint32_t code = made(asked, arena, answer);
+    rover->at = FAULT == ROVER_IGNORED ? 0 : asked->b;
+    uint32_t code = made(asked, arena, rover, answer);
+    if (asked->call != ALLOC_NEXT)
+        return code;
+    if (FAULT == ROVER_OF_REFUSAL && code != ZV_DONE)
+        rover->at = 0;
+    if (FAULT == ROVER_KEPT || (FAULT == ROVER_IGNORED && code != ZV_DONE))
+        rover->at = asked->b;
+    if (FAULT == ROVER_AT_BLOCK && code == ZV_DONE)
+        rover->at = answer[ZV_BLOCK];
+    if (FAULT == ROVER_AT_GRANT && code == ZV_DONE)
+        rover->at = answer[ZV_BLOCK] - HEADER_WORDS;
+    if (FAULT == BEFORE_ROVER)
+        (rover - 1)->at = 0;
+    if (FAULT == BEHIND_ROVER)
+        (rover + 1)->at = 0;
+    return code;
+}
+
+/* Makes a call and, where a fault is asked for, does wrong what a call could. */
+static uint32_t made_with_fault(const struct question *asked, uint32_t *arena, struct zv_rover *rover, uint32_t *answer)
+{
+    uint32_t code = made_with_rover(asked, arena, rover, answer);
     size_t count = field_count(asked->call);
     uint32_t first = count > 0 ? answer[0] : 0;
     if (FAULT == SWAPPED_FIELDS && count == 2) {
@@ -86,14 +125,18 @@ static struct reply reply_to(const struct question *asked, uint32_t *arena)
     struct reply told = {0};
     size_t count = field_count(asked->call);
     uint32_t *fields = fresh_room(count * sizeof *fields);
-    uint32_t code = made_with_fault(asked, arena, fields);
+    struct zv_rover *rover = fresh_room(sizeof *rover);
+    uint32_t code = made_with_fault(asked, arena, rover, fields);
     if (asked->call == VIEW || asked->call == VIEW_MUT) {
         told.part_words = code == ZV_DONE ? fields[0] : 0;
     } else {
         told.code = code;
         memcpy(told.fields, fields, count * sizeof *fields);
     }
+    if (asked->call == ALLOC_NEXT)
+        told.fields[ROVER_FIELD] = rover->at;
     end_room("the answer", fields, count * sizeof *fields);
+    end_room("the rover", rover, sizeof *rover);
     return told;
 }
 

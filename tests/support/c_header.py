@@ -12,11 +12,15 @@ GUARD = "#define ZANDERVLECHT_H"
 # A function of the crate that C can call: its name, its parameters, and the type that it returns.
 EXPORT = re.compile(r'#\[no_mangle\]\npub extern "C" fn (\w+)\((.*?)\)(?: -> (\w+))?\s', re.DOTALL)
 
-# A lent slice or, with a number, a lent array.
+# A lent slice or, with a number, a lent array; and a lent record.
 LENT = re.compile(r"&(mut )?\[(\w+)(?:; (\d+))?\]")
+LENT_RECORD = re.compile(r"&(mut )?(\w+)")
+
+# The records of the code that C can see, in the order of the header, and what they are called there.
+RECORDS = {"Request": "zv_request", "Rover": "zv_rover"}
 
 # The types of the code in C, and what the header calls a lent slice and how many words, bytes or records it has.
-C_TYPES = {"u32": "uint32_t", "u8": "uint8_t", "Request": "struct zv_request"}
+C_TYPES = {"u32": "uint32_t", "u8": "uint8_t", **{code: f"struct {name}" for code, name in RECORDS.items()}}
 SLICE_NAMES = {"a": ("arena", "words"), "text": ("text", "bytes"), "spelled": ("spelled", "bytes"),
                "requests": ("requests", "count")}
 
@@ -26,9 +30,9 @@ CONSTANTS = {"ZV_LEAST_WORDS": "LEAST_LENGTH", "ZV_GREATEST_WORDS": "GREATEST_LE
 # An enum of the code whose first case has named fields: its name, and these.
 ANSWER = re.compile(r"pub enum (\w+) \{\s*\w+ \{(.*?)\}", re.DOTALL)
 
-# The fields of the record of the code, which has to lie in memory as C has it, and one of them.
-RECORD = re.compile(r"#\[repr\(C\)\]\npub struct Request \{(.*?)\}", re.DOTALL)
-FIELD = re.compile(r"(\w+): (.+),\n")
+# A record of the code that lies in memory as C has it, with its fields, and one of these.
+RECORD = re.compile(r"#\[repr\(C\)\]\npub struct (\w+) \{(.*?)\}", re.DOTALL)
+FIELD = re.compile(r"(\w+): (.+?),?\s*$", re.MULTILINE)
 
 # What makes the call of a kind, and its lines: for each kind the number, the answer, the call and what that takes.
 KINDS = re.compile(r"\nfn call\(.*?match kind \{(.*?)\n    \}", re.DOTALL)
@@ -82,14 +86,21 @@ def upper(name):
     return re.sub(r"(?<!^)([A-Z])", r"_\1", name).upper()
 
 
+def pointed_to(mutable, unit):
+    """What a pointer of C points to, where the code is lent such a unit."""
+    return ("" if mutable else "const ") + C_TYPES.get(unit, unit)
+
+
 def c_parameters(parameter):
     """What a parameter of the code is in C: a lent slice is two, a pointer and how many words or bytes it points to."""
     name, kind = parameter.split(": ")
-    lent = LENT.fullmatch(kind)
+    lent, record = LENT.fullmatch(kind), LENT_RECORD.fullmatch(kind)
+    if record:
+        return [f"{pointed_to(*record.groups())} *{name}"]
     if lent is None:
         return [f"{C_TYPES.get(kind, kind)} {name}"]
     mutable, unit, count = lent.groups()
-    kind = ("" if mutable else "const ") + C_TYPES.get(unit, unit)
+    kind = pointed_to(mutable, unit)
     if count:
         return [f"{kind} {name}[{count}]"]
     pointer, number = SLICE_NAMES.get(name, (name, f"{name}_words"))
@@ -151,13 +162,13 @@ def kind_entries(root):
 
 
 def record_fields(rules):
-    """The fields of a request, in the order in which they lie in memory."""
-    record = RECORD.search(rules)
-    if record is None:
-        yield "struct zv_request: of no fields, since none of the code lie in memory as C has them"
-        return
-    for name, kind in FIELD.findall(record.group(1)):
-        yield f"struct zv_request: {C_TYPES.get(kind, kind)} {name}"
+    """The fields of each record, in the order in which they lie in memory."""
+    inside = dict(RECORD.findall(rules))
+    for record, known_as in RECORDS.items():
+        if record not in inside:
+            yield f"struct {known_as}: of no fields, since none of the code lie in memory as C has them"
+        for name, kind in FIELD.findall(inside.get(record, "")):
+            yield f"struct {known_as}: {C_TYPES.get(kind, kind)} {name}"
 
 
 def due(root):

@@ -111,6 +111,13 @@ def reply_bytes(answer):
     return packed([answer.code, *fields, len(answer.part), *answer.part, *answer.words])
 
 
+def answer_in(reply):
+    """The answer that a reply holds, with all its fields."""
+    code, *rest = struct.unpack(f"<{len(reply) // 4}I", reply)
+    part_end = FIELDS + 1 + rest[FIELDS]
+    return model.Answer(code, tuple(rest[:FIELDS]), rest[FIELDS + 1:part_end], rest[part_end:])
+
+
 def name_of(call):
     """The call's name, for messages."""
     return NAMES[call] if call in CALLS else f"call number {call}"

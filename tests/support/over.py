@@ -11,7 +11,7 @@ AFTER = ("a live chunk", "the end", "the only free chunk", "the last free chunk"
          "four free words", "six free words", "more free words")
 
 # Where words can be over.
-PLACES = ["alloc", "relocate", "realloc moved", "resize grown", "realloc grown",
+PLACES = ["alloc", "alloc_best", "alloc_next", "relocate", "realloc moved", "resize grown", "realloc grown",
           *(f"{name} before {after}" for name in ("resize", "realloc") for after in AFTER)]
 
 WANTED = [("over", place, count) for place in PLACES for count in COUNTS]
@@ -38,7 +38,7 @@ def words_at_hand(case, answer, need, gaps):
     """The names of the place where a call that was done took its need, and how many words were there."""
     name = cases.name_of(case.call)
     block = answer.fields[0]
-    if case.call in (cases.ALLOC, cases.RELOCATE):
+    if case.call in (*cases.FITS, cases.RELOCATE):
         return [name], gap_around(block, gaps)[1]
     size = case.words[case.block - model.HEADER]
     end = case.block - model.HEADER + size

@@ -31,7 +31,7 @@ SPOILED = [
     (unheld("SKIPS_LAST"), "in record 40 afterwards: expected Record(kind=6, b=4, n=0, code=0, block=0, granted=8)"),
     (unheld("COUNTS_IN_A_BYTE"), "in record 25 afterwards: expected Record(kind="),
     (unheld("NEXT_RECORD"), "in record 1 afterwards: expected Record(kind=1"),
-    (unheld("BYTE_OF_KIND"), "in record 7 afterwards: expected Record(kind=257"),
+    (unheld("BYTE_OF_KIND"), "in record 8 afterwards: expected Record(kind=257"),
     (unheld("SWAPPED_KINDS"), "in record 13 afterwards: expected Record(kind=4, b=44, n=21, code=8"),
     (unheld("SWAPPED_NUMBERS"), "in record 1 afterwards: expected Record(kind=1"),
     (unheld("LOOKS_AT_B"), "in record 4 afterwards: expected Record(kind=1, b=4294967295, n=0, code=4"),

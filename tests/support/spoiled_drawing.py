@@ -15,6 +15,11 @@ def lab_tool(old, new):
     return replaced("tools/draw_batch", old, new)
 
 
+def shared(old, new):
+    """What the tools that draw share has other words in one place."""
+    return replaced("tools/drawing.py", old, new)
+
+
 # What spoils a copy, and what the driver then has to tell.
 SPOILED = [
     (replaced("docs/morning.txt", "060040", "060042"), "docs/morning.txt is not what the library writes"),
@@ -22,11 +27,13 @@ SPOILED = [
     (replaced("docs/BOARD.md", "    060040", "    060042"), "docs/BOARD.md does not show docs/morning.txt"),
     (replaced("docs/BOARD.md", "(morning.svg)", "(evening.svg)"), "docs/BOARD.md does not show docs/morning.svg"),
     (replaced("docs/BOARD.md", "(experiment.svg)", "(lab.svg)"), "docs/BOARD.md does not show docs/experiment.svg"),
-    (replaced("tools/draw_arena", "LIVE_MARK = 4294967295", "LIVE_MARK = 0"), "docs/morning.svg is not what is drawn"),
+    (shared("LIVE_MARK = 4294967295", "LIVE_MARK = 0"), "docs/morning.svg is not what is drawn"),
     (replaced("tools/draw_arena", "if picture_of(words) != text.upper():", "if not words and not text:"),
      "of the text"),
-    (replaced("tools/draw_arena", "size < 2 * HEADER_WORDS or", "size < 1 or"), "of the text"),
-    (replaced("tools/draw_arena", "words[0] != len(words)", "False"), "of the text"),
+    (shared("size < 2 * HEADER_WORDS or", "size < 1 or"), "of the text"),
+    (shared("words[0] != len(words)", "False"), "of the text"),
+    (shared('patternUnits="userSpaceOnUse">{lines}', 'patternUnits="objectBoundingBox">{lines}'),
+     "docs/experiment.svg is not what is drawn"),
     (replaced("docs/experiment.svg", "black", "grey"), "docs/experiment.svg is not what is drawn"),
     (lab("size        64    0     0      0       40", "size        64    0     0      0       38"),
      "experiment.stdout is not drawn"),

@@ -36,6 +36,11 @@ def renamed_symbol(root):
     edited_bytes(root, LIBRARY, lambda content: content.replace(b"zv_relocate\0", b"zv_relocete\0"))
 
 
+def unlike_c(record):
+    """A record of the code lies in memory as the compiler likes."""
+    return replaced(RULES, f"#[repr(C)]\npub struct {record} {{", f"pub struct {record} {{")
+
+
 # What spoils a copy, and what the driver then has to tell.
 SPOILED = [
     (swapped("ZV_ZERO", "ZV_TOO_LARGE"), "the header lacks: enum zv_code: ZV_ZERO = 4"),
@@ -72,13 +77,31 @@ SPOILED = [
     (header("*requests, size_t count", "*requests, uint32_t count"), "the header lacks: void zv_batch("),
     (header("void zv_batch", "uint32_t zv_batch"), "the header lacks: void zv_batch("),
     (header("struct zv_request *requests", "const struct zv_request *requests"), "the header lacks: void zv_batch("),
+    (header("uint32_t at;", "uint32_t *at;"), "the header lacks: struct zv_rover: uint32_t at"),
+    (header("uint32_t at;", "uint32_t at, from;"), "the sources have not: struct zv_rover: uint32_t at, from"),
+    (header("words, struct zv_rover *rover", "words, uint32_t *rover"), "the header lacks: uint32_t zv_alloc_next("),
+    (header("words, struct zv_rover *rover", "words, const struct zv_rover *rover"),
+     "the header lacks: uint32_t zv_alloc_next("),
+    (header("words, struct zv_rover *rover", "words, struct zv_rover rover"),
+     "the header lacks: uint32_t zv_alloc_next("),
+    (header("struct zv_rover *rover, uint32_t n,", "uint32_t n, struct zv_rover *rover,"),
+     "the header lacks: uint32_t zv_alloc_next("),
+    (header("uint32_t zv_alloc_best(uint32_t *arena, size_t words, uint32_t n, uint32_t answer[2]);", ""),
+     "the header lacks: uint32_t zv_alloc_best("),
+    (swapped("zv_alloc(", "zv_alloc_best("), "in another order"),
     (header("The call was done.", "The call was done. Go on."), "before ZV_DONE stands no comment"),
     (header("    /* The request is for no words. */\n", ""), "before ZV_ZERO stands no comment"),
     (header("/* Frees block b. */\n", ""), "before zv_free stands no comment"),
     (header("ZV_LENGTH, the last also where the bytes make no whole number of words.\n", "ZV_LENGTH\n"),
      "before zv_check stands no comment"),
     (header("    /* The code, as the call would return it. */\n", ""), "before code stands no comment"),
+    (header("    /* The word from which on the search begins: where", "    /* where"), "before at stands no comment"),
+    (header("/* Does as zv_alloc does, but takes the smallest", "/* the smallest"),
+     "before zv_alloc_best stands no comment"),
     (header("zv_relocate and zv_realloc. */", "zv_relocate. */"), "the comment before zv_granted does not name"),
+    (header("zv_alloc_best, zv_alloc_next, zv_resize", "zv_alloc_next, zv_resize"),
+     "the comment before zv_granted does not name"),
+    (header("one struct zv_rover,", "one struct zv_rovers,"), "a comment names zv_rovers"),
     (header("It is zv_resize with", "It is zv_realloc with"), "before ZV_RESIZE does not name zv_resize, b, n, block"),
     (header("zv_free with b", "zv_free with n"), "the comment before ZV_FREE does not name zv_free, b alone"),
     (header("answers granted.", "answers block."), "before ZV_SIZE does not name zv_size, b, granted alone"),
@@ -94,8 +117,16 @@ SPOILED = [
     (replaced(CALLS, "zv_free(a: &mut [u32]", "zv_free(a: &[u32]"), "zv_free(const uint32_t *arena"),
     (replaced(CALLS, "zv_check(spelled: &[u8]", "zv_check(spelled: &mut [u8]"), "zv_check(uint8_t *spelled"),
     (replaced(CALLS, "requests: &mut [Request]", "requests: &[Request]"), "words, const struct zv_request *requests"),
-    (replaced(CALLS, "#[no_mangle]\n", "#[no_mangle]\n#[inline]\n"), "times, and 11 functions were read there"),
-    (replaced(RULES, "#[repr(C)]\n", ""), "the header lacks: struct zv_request: of no fields"),
+    (replaced(CALLS, "rover: &mut Rover", "rover: &Rover"), "words, const struct zv_rover *rover"),
+    (replaced(CALLS, "rover: &mut Rover", "rover: &mut [u32; 1]"), "words, uint32_t rover[1]"),
+    (replaced(CALLS, "rover: &mut Rover,\n    n: u32,\n", "n: u32,\n    rover: &mut Rover,\n"),
+     "uint32_t n, struct zv_rover *rover"),
+    (replaced(CALLS, "fn zv_alloc_best", "fn zv_alloc_worst"), "the header lacks: uint32_t zv_alloc_worst("),
+    (replaced(CALLS, "#[no_mangle]\n", "#[no_mangle]\n#[inline]\n"), "times, and 13 functions were read there"),
+    (unlike_c("Request"), "the header lacks: struct zv_request: of no fields"),
+    (unlike_c("Rover"), "the header lacks: struct zv_rover: of no fields"),
+    (replaced(RULES, "at: u32", "at: u64"), "the header lacks: struct zv_rover: u64 at"),
+    (replaced(RULES, "at: u32", "word: u32"), "the header lacks: struct zv_rover: uint32_t word"),
     (replaced(RULES, "    pub b: u32,\n    pub n: u32,\n", "    pub n: u32,\n    pub b: u32,\n"), "in another order"),
     (replaced(RULES, "    pub n: u32,\n", "    pub n: u64,\n"), "the header lacks: struct zv_request: u64 n"),
     (replaced(RULES, "    pub n: u32,\n", "    pub n: [u32; 2],\n"), "the header lacks: struct zv_request: [u32; 2] n"),

@@ -8,6 +8,7 @@ import sys
 
 from . import batches, cases, lines, model, picture_cases
 from .batch_faults import BATCH_FAULTS
+from .fit_faults import FIT_FAULTS, see_only
 from .picture_faults import PICTURE_FAULTS
 
 # The reply, counted from 0, that a fault of replies spoils.
@@ -80,6 +81,16 @@ def split_off_four_in_alloc():
     split_only_in("alloc_rule", 4)
 
 
+def split_off_four_in_best():
+    """Splits off four words or more, but only of a chunk that best fit finds."""
+    split_only_in("alloc_best_rule", 4)
+
+
+def split_off_four_in_next():
+    """Splits off four words or more, but only of a chunk that next fit finds."""
+    split_only_in("alloc_next_rule", 4)
+
+
 def split_off_four_in_grow():
     """Splits off four words or more, but only of the room of a block that grows."""
     split_only_in("kept_of", 4, lambda size, room, need: need > size)
@@ -110,15 +121,7 @@ def refuse_small_chunks():
 
 def skip_small_gaps():
     """Passes over free chunks of four words, and six, where a request would fit them."""
-    true_alloc = model.alloc_rule
-
-    def alloc_rule(lent, asked):
-        live, gaps = lent.chunks()
-        larger = model.Lent(lent.words)
-        larger.kept = live, [(gap, room) for gap, room in gaps if room >= 8]
-        return true_alloc(larger, asked)
-
-    model.alloc_rule = alloc_rule
+    see_only("alloc_rule", lambda gaps, need: [(gap, room) for gap, room in gaps if room >= 8])
 
 
 def spoil_shrink(spoil):
@@ -318,10 +321,10 @@ def largest_with_header():
 
 
 RULE_FAULTS = {"tail": cut_tail_of_two, "cut": cut_tail_in_place, "four": split_off_four, "six": split_off_six,
-               "ten": grant_eight_over, "alloc": split_off_four_in_alloc, "grow": split_off_four_in_grow,
-               "shrink": split_off_four_in_shrink, "keeps": keep_beside_gap, "room": take_whole_room,
-               "small": refuse_small_chunks, "skips": skip_small_gaps,
-               "link": leave_link, "wipe": clear_old_header, "believe": believe_words_before,
+               "ten": grant_eight_over, "alloc": split_off_four_in_alloc, "best": split_off_four_in_best,
+               "next": split_off_four_in_next, "grow": split_off_four_in_grow, "shrink": split_off_four_in_shrink,
+               "keeps": keep_beside_gap, "room": take_whole_room, "small": refuse_small_chunks,
+               "skips": skip_small_gaps, "link": leave_link, "wipe": clear_old_header, "believe": believe_words_before,
                "clear": clear_swallowed_header, "early": free_before_move, "less": copy_one_word_less,
                "all": copy_all_old_words, "asked": copy_words_asked, "byte": copy_count_of_a_byte,
                "stays": stay_in_move, "moves": move_in_resize, "never": never_move, "order": would_move_first,
@@ -370,7 +373,7 @@ def batch_replies():
 def main(name, fault=None):
     """Answers as the program would, but for the fault."""
     own_faults = {"picture_cases": PICTURE_FAULTS, "batch_cases": BATCH_FAULTS}
-    own_faults.get(name, {**RULE_FAULTS, **REPORT_FAULTS}).get(fault, lambda: None)()
+    own_faults.get(name, {**RULE_FAULTS, **REPORT_FAULTS, **FIT_FAULTS}).get(fault, lambda: None)()
     held_back = b""
     replies = {"board": lambda: board_replies(fault), "cases": cases_replies, "picture_cases": picture_replies,
                "batch_cases": batch_replies}

@@ -10,6 +10,7 @@ from collections import namedtuple
 from . import programs
 from .batch_faults import BATCH_FAULTS
 from .driver import Difference
+from .fit_faults import FIT_FAULTS
 from .picture_faults import PICTURE_FAULTS
 from .stand_in import LATE
 
@@ -20,6 +21,9 @@ OVER = ["tail", "four", "six", "ten", "alloc", "grow", "shrink", "keeps", "room"
 ANOTHER_LENGTH = ["cut", "link", "wipe", "early", "less", "all", "asked", "stays", "moves", "never", "order", "lacks",
                   "stores"]
 
+# Some of what it can do wrong in best fit or next fit.
+ANOTHER_FIT = ["lastequal", "pastrover", "inside", "backwards", "lacking", "pastwhole"]
+
 # What it can do wrong in any report. (A list followed for 255 links only, "manylinks", takes a longer list to be seen.)
 ANOTHER_COUNT = ["lastlink", "last", "header"]
 
@@ -29,8 +33,8 @@ Trial = namedtuple("Trial", "driver count program faults")
 # The driver of the document's rows runs both programs.
 BOTH = "test_document_rows"
 
-# The trials, by what the drivers compare: rows by hand, long runs of lines, single calls on many arenas, pictures,
-# batches of plain words. (Batches from C are tried on spoiled copies.)
+# The trials, by what the drivers compare: rows by hand, long runs of lines, calls on many arenas, single ones or in
+# runs, pictures, batches of plain words. (Batches from C are tried on spoiled copies.)
 ROWS = [
     Trial(BOTH, 1, "board", ["digit", "missing", "extra", "tail", "four", "six", "alloc", "small", "skips",
                               *ANOTHER_COUNT]),
@@ -38,6 +42,7 @@ ROWS = [
     Trial("test_pages", 1, "board", ["digit", "missing", "tail", "four", *ANOTHER_COUNT]),
     Trial("test_call_rows", 1, "cases", ["word", "missing", "extra", "believe", "clear", "byte", "manylinks",
                                          *ANOTHER_COUNT, *OVER, *ANOTHER_LENGTH]),
+    Trial("test_fit_rows", 1, "cases", ["word", "missing", "extra", "best", "next", *FIT_FAULTS]),
 ]
 LINES = [
     Trial("test_random_lines", 3000, "board", ["digit", "missing", "extra", "link", "early", "never", LATE, *OVER,
@@ -45,10 +50,12 @@ LINES = [
     Trial("test_full_board", 1, "board", ["digit", "manylinks", "six", "shrink"]),
 ]
 ARENAS = [
-    Trial("test_small_arenas", 10000, "cases", ["word", "missing", "extra", "clear", *ANOTHER_COUNT, *OVER,
-                                                *ANOTHER_LENGTH]),
-    Trial("test_damaged_arenas", 3000, "cases", ["word", "missing", "extra", "believe", "clear", "manylinks",
-                                                 *ANOTHER_COUNT, *OVER, *ANOTHER_LENGTH]),
+    Trial("test_small_arenas", 10000, "cases", ["word", "missing", "extra", "clear", "atend", *ANOTHER_COUNT, *OVER,
+                                                *ANOTHER_LENGTH, *ANOTHER_FIT]),
+    Trial("test_damaged_arenas", 3000, "cases", ["word", "missing", "extra", "believe", "clear", "manylinks", "best",
+                                                 "next", "lowbits", "shut", "nextgate", "nextlinks", *ANOTHER_COUNT,
+                                                 *OVER, *ANOTHER_LENGTH, *ANOTHER_FIT]),
+    Trial("test_fit_runs", 2000, "cases", ["word", "togranted", "ownrover", "movebest", *ANOTHER_FIT]),
 ]
 BATCHES = [Trial("test_batch", 12, "batch_cases", ["word", "missing", *BATCH_FAULTS])]
 PICTURES = [Trial("test_pictures", 300, "picture_cases", ["word", "missing", "extra", *PICTURE_FAULTS])]

@@ -20,7 +20,8 @@ use Rattle.rules.specs.Libraries.{Call, start, alloc, free, resize, relocate, r
 use Rattle.layout.proofs.Round.{sound-lawful}
 use Rattle.rules.proofs.Gates.{request-needed}
 use Rattle.rules.proofs.Starting.{whole-lawful}
-use Rattle.rules.proofs.CallCases.{Case, refuses, does, Restarts, restarts, start-case, Allots, allots, alloc-by-case, Frees, frees, free-case, Measures}
+use Rattle.rules.proofs.CallCases.{Case, refuses, does, Restarts, restarts, start-case, Allots, allots, alloc-by-case, Frees, frees, free-case}
+use Rattle.rules.proofs.CallCases.{Measures}
 use Rattle.rules.proofs.CallCases.{measures, size-case, Reports, reports, report-case}
 use Rattle.rules.proofs.RegrantCases.{Resizes, resizes, Relocates, moves, Regrants, in-place, elsewhere, resize-case, relocate-case, realloc-case}
 use Rattle.rules.proofs.PictureCalls.{Draws, draws, write-case, Takes, takes, read-case}

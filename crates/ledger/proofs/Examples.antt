@@ -146,7 +146,8 @@ answeredAs (aCall c) answer = answer .code ∷ blockField (answer .values) ∷ g
 answeredAs unknown answer = number Frame ∷ 0 ∷ 0 ∷ []
 
 -- the rows as one batch: each record has its row's answer, but that a report, which no record asks for, gets 7
-pub table-records : map answeredIn (batchBy ours (fresh .words) (map recordFor rowCalls) .records) ≡ map (λ (r : Call × Answer). answeredAs (wantedIn (recordFor (r .0))) (r .1)) rows
+pub table-records : map answeredIn (batchBy ours (fresh .words) (map recordFor rowCalls) .records) ≡ map
+    (λ (r : Call × Answer). answeredAs (wantedIn (recordFor (r .0))) (r .1)) rows
 unfolding startOn allocBy freeOn regrantBy reportOn arenaGate requestGate sound chunksOf walked walkFrom walk meet lowest joined copied written write
     header wanted batchBy
 table-records = refl

@@ -46,12 +46,14 @@ module _ (policies : Policies) (fitting : AllFitting policies) where
 
   -- the gaps that have words are the free chunks
   pub run-holes : {n : ℕ} {s : State} → Run (libraryBy policies) n s → holes (gaps n (s .ledger)) ≡ freeChunks (chunksOf (s .words))
-  run-holes {n} {s} run = run-counted hole refl run ∙ free-holes (chunksOf (s .words)) (agrees-lawful n (s .words) (s .ledger) (run-agrees policies fitting run) .sizes)
+  run-holes {n} {s} run = run-counted hole refl run ∙ free-holes (chunksOf (s .words))
+      (agrees-lawful n (s .words) (s .ledger) (run-agrees policies fitting run) .sizes)
 
   -- ---- crumbs
 
   -- so it is enough to look at the arena
-  by-arena : {n : ℕ} {s : State} → Run (libraryBy policies) n s → (c : Call) (more : ℕ) → crumbsOf ((libraryBy policies) c (s .words) .words) ≤ more + crumbsOf (s .words)
+  by-arena : {n : ℕ} {s : State} → Run (libraryBy policies) n s → (c : Call) (more : ℕ)
+      → crumbsOf ((libraryBy policies) c (s .words) .words) ≤ more + crumbsOf (s .words)
       → counted crumb (gaps n (after (libraryBy policies) (call c) s .ledger)) ≤ more + counted crumb (gaps n (s .ledger))
   by-arena run c more few = omega (arith, few, run-counted crumb refl run, run-counted crumb refl (next run (call c) tt))
 

@@ -34,13 +34,16 @@ other-word (store c j w) b i old other = go (eqb b c && eqb i j) refl
     go false p = refl
 
 module _ (policies : Policies) (fitting : AllFitting policies) where
-  pub stored-lasts : {n : ℕ} {s : State} {b i v : ℕ} → StoredLast (libraryBy policies) n s b i v → Held (s .ledger) b i × (getD (s .words) (b + i) 0 ≡ v)
-  stored-lasts {n} (just {s} run b i v allowed) = (allowed .0, store-there n (s .words) (s .ledger) (run-agrees policies fitting run) b i v (allowed .0))
+  pub stored-lasts : {n : ℕ} {s : State} {b i v : ℕ} → StoredLast (libraryBy policies) n s b i v
+      → Held (s .ledger) b i × (getD (s .words) (b + i) 0 ≡ v)
+  stored-lasts {n} (just {s} run b i v allowed) =
+      (allowed .0, store-there n (s .words) (s .ledger) (run-agrees policies fitting run) b i v (allowed .0))
   stored-lasts (pictured s text run z b i held) = (held, read-shows text (s .words) z (b + i))
   stored-lasts {n} (still {s} {b} {i} {v} t event allowed unended uncut other) =
       let (held, word) = stored-lasts t in
       let (e, l, q, h) = held in
-      let kept = ⊎-elim (λ ended. absurd (unended (rw q at ended))) (λ k. k) (event-keeps policies fitting n s (run-agrees policies fitting (stored-run t)) event allowed e l) in
+      let kept = ⊎-elim (λ ended. absurd (unended (rw q at ended))) (λ k. k)
+      (event-keeps policies fitting n s (run-agrees policies fitting (stored-run t)) event allowed e l) in
       let then = still-held (libraryBy policies) event s b i held unended uncut in
       let (f, m, r, k) = then in (
         then,

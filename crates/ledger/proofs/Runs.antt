@@ -44,7 +44,8 @@ module _ (policies : Policies) (fitting : AllFitting policies) where
       → Ended (libraryBy policies) event s (e .block) ⊎ WordsKept s event e
   event-keeps n s g (call c) allowed e l = go (call-noted n (s .words) (s .ledger) g policies fitting c)
     where
-      go : CallNoted n (s .words) (s .ledger) c ((libraryBy policies) c (s .words)) → Ended (libraryBy policies) (call c) s (e .block) ⊎ WordsKept s (call c) e
+      go : CallNoted n (s .words) (s .ledger) c ((libraryBy policies) c (s .words))
+          → Ended (libraryBy policies) (call c) s (e .block) ⊎ WordsKept s (call c) e
       go (kept goes) = inr (λ f m q i h k. goes .keeps e f l m q i h k)
       go (renewed z blocks p agrees) = inl (z, inr (blocks, p))
   event-keeps n s g (store b j v) allowed e l =
@@ -52,7 +53,8 @@ module _ (policies : Policies) (fitting : AllFitting policies) where
 
   -- a block goes on with its words, or the event ends it
   module _ (n : ℕ) (s : State) (g : AgreesAt n s) (event : Event) (allowed : Allowed event (s .ledger)) (e : Entry) (l : Listed (s .ledger) e) where
-    goes-on : WordsKept s event e → (f : Entry) → Listed (after (libraryBy policies) event s .ledger) f → f .block ≡ numberAfter (libraryBy policies) event s (e .block)
+    goes-on : WordsKept s event e → (f : Entry) → Listed (after (libraryBy policies) event s .ledger) f
+        → f .block ≡ numberAfter (libraryBy policies) event s (e .block)
         → GoesOn (libraryBy policies) s event e
     goes-on words f m q =
         record { later = f; listed = m; number-is = q; words-kept = λ i h. words f m q i (omega arith) (omega arith) }
@@ -60,7 +62,8 @@ module _ (policies : Policies) (fitting : AllFitting policies) where
     pub block-keeps : Ended (libraryBy policies) event s (e .block) ⊎ GoesOn (libraryBy policies) s event e
     block-keeps = ⊎-elim inl (λ words. go words (onward (libraryBy policies) event s e l)) (event-keeps n s g event allowed e l)
       where
-        go : WordsKept s event e → Onward (libraryBy policies) event s e (after (libraryBy policies) event s .ledger) (numberAfter (libraryBy policies) event s (e .block))
+        go : WordsKept s event e
+            → Onward (libraryBy policies) event s e (after (libraryBy policies) event s .ledger) (numberAfter (libraryBy policies) event s (e .block))
             → Ended (libraryBy policies) event s (e .block) ⊎ GoesOn (libraryBy policies) s event e
         go words (ends end) = inl end
         go words (stays m q) = inr (goes-on words e m q)

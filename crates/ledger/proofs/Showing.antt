@@ -46,7 +46,8 @@ module _ (policies : Policies) (fitting : AllFitting policies) where
   -- a call that gives one of the first two reasons, and is no reading, has an unlawful length, or an arena that is not
   -- sound
   gate-refused : (a : List ℕ) (c : Call) → ((text : List ℕ) → c ≢ read text)
-      → ((libraryBy policies) c a .answer .code ≡ number Length → lawful (length a) ≡ false) × ((libraryBy policies) c a .answer .code ≡ number Damaged → sound a ≡ false)
+      → ((libraryBy policies) c a .answer .code ≡ number Length → lawful (length a) ≡ false) ×
+      ((libraryBy policies) c a .answer .code ≡ number Damaged → sound a ≡ false)
   gate-refused a start other = (
     λ e. start-behaves a .refused Length .0 e .1,
     λ e. absurd
@@ -67,7 +68,8 @@ module _ (policies : Policies) (fitting : AllFitting policies) where
   gate-refused a (read text) other = absurd (other text refl)
 
   -- a call that would move its block is a resize, and to a number of words that may be asked for
-  would-move : (a : List ℕ) (c : Call) → (libraryBy policies) c a .answer .code ≡ number WouldMove → (b : ℕ) × (w : ℕ) × (c ≡ resize b w) × LawfulRequest (length a) w
+  would-move : (a : List ℕ) (c : Call) → (libraryBy policies) c a .answer .code ≡ number WouldMove
+      → (b : ℕ) × (w : ℕ) × (c ≡ resize b w) × LawfulRequest (length a) w
   would-move a start e = absurd (omega (arith, ap number (start-behaves a .refused WouldMove .0 e .0)))
   would-move a (alloc fit w) e = absurd (alloc-by-behaves a (policies fit) (fitting fit) w .refused WouldMove .0 e .1)
   would-move a (free b) e = absurd (free-behaves a b .refused WouldMove .0 e .1)

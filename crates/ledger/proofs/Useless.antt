@@ -46,7 +46,11 @@ module _ (fit : Fit) where
     done : Done (library (alloc fit w) (library start a .words) .answer)
     once :
         Run library (length a)
-        (record { words = library (alloc fit w) (library start a .words) .words; ledger = told (library (alloc fit w) (library start a .words) .answer) ∷ [] })
+        (record {
+          words = library (alloc fit w) (library start a .words) .words;
+          ledger = told
+              (library (alloc fit w) (library start a .words) .answer) ∷ [];
+        })
 
   has-once : (library : Library) → RoomForAlloc library (alloc fit) → (a : List ℕ) (w : ℕ) → lawful (length a) ≡ true
       → (1 ≤ w) × (need w ≤ length a - controlWords) → Once library a w
@@ -148,7 +152,8 @@ module _ (fit : Fit) where
   MadeUpTotal total library = (a : List ℕ) → freeWordsIn (library report a .answer) ≡ total (length a)
 
   -- if it keeps the room rule and its arena's length, its sum is wrong, before an alloc or after it
-  pub made-up-total : (total : ℕ → ℕ) (library : Library) → MadeUpTotal total library → Lengths library → RoomForAlloc library (alloc fit) → Sums library → ⊥
+  pub made-up-total : (total : ℕ → ℕ) (library : Library) → MadeUpTotal total library → Lengths library → RoomForAlloc library (alloc fit)
+      → Sums library → ⊥
   made-up-total total library made lengths room sums =
       let o = in-six library room in
       let before : total 6 ≡ 4 = rw (← lengths 6 _ (o .started), ← made) (omega (arith, sums 6 _ (o .started))) in
@@ -185,7 +190,8 @@ module _ (fit : Fit) where
   GrantsBeyond library = (w : ℕ) (a : List ℕ) → Done (library (alloc fit w) a .answer) → told (library (alloc fit w) a .answer) .block ≡ length a
 
   -- if it keeps the room rule and its arena's length, and grants enough, its block is not inside
-  pub grants-beyond : (library : Library) → GrantsBeyond library → Lengths library → RoomForAlloc library (alloc fit) → Known library → Inside library → ⊥
+  pub grants-beyond : (library : Library) → GrantsBeyond library → Lengths library → RoomForAlloc library (alloc fit) → Known library
+      → Inside library → ⊥
   grants-beyond library beyond lengths room known inside =
       let o = in-six library room in
       omega (
@@ -270,7 +276,8 @@ module _ (fit : Fit) where
       → headerWords + told (library (alloc fit w) a .answer) .granted ≡ need w + 6
 
   -- if it keeps the room rule and its blocks lie inside, it does not take the gap whole: of 32 words, 20 are left
-  pub grants-six-beyond : (library : Library) → GrantsSixBeyond library → RoomForAlloc library (alloc fit) → Inside library → NeedOrGap library (alloc fit) → ⊥
+  pub grants-six-beyond : (library : Library) → GrantsSixBeyond library → RoomForAlloc library (alloc fit) → Inside library
+      → NeedOrGap library (alloc fit) → ⊥
   unfolding enter
   grants-six-beyond library beyond room inside whole =
       ⊎-elim (λ just-need. omega (arith, just-need, six)) (λ one-less. go (ltb 0 below) refl (rw (o .done) at one-less))
@@ -316,9 +323,11 @@ NeverRegrants library = (b w : ℕ) (a : List ℕ) → Done (library (realloc b 
 
 -- if it keeps the room rule of alloc and grants enough, it fails that of realloc: a block has room for the words that
 -- it has
-pub never-regrants : (library : Library) → NeverRegrants library → RoomForAlloc library (alloc first-fit) → Known library → RoomForRealloc library realloc → ⊥
+pub never-regrants : (library : Library) → NeverRegrants library → RoomForAlloc library (alloc first-fit) → Known library
+    → RoomForRealloc library realloc → ⊥
 never-regrants library refuses room known regrants =
-    refuses _ 2 _ (regrants 6 _ (in-six first-fit library room .once) [] [] _ refl 2 (omega arith) .done .1 (λ short. own-room first-fit library room known (short .1)))
+    refuses _ 2 _ (regrants 6 _ (in-six first-fit library room .once) [] [] _ refl 2 (omega arith) .done .1
+    (λ short. own-room first-fit library room known (short .1)))
 
 -- ---- one that never resizes, and one that moves a block on a resize
 
@@ -335,14 +344,17 @@ ResizeMoves library = (b w : ℕ) (a : List ℕ) → Done (library (resize b w) 
 a-resize : (library : Library) → RoomForAlloc library (alloc first-fit) → Known library → RoomForResize library resize
     → let a = library start (replicate 6 0) .words in let first = library (alloc first-fit 2) a in
     Done (library (resize (told (first .answer) .block) 2) (first .words) .answer)
-a-resize library room known resizes = resizes 6 _ (in-six first-fit library room .once) [] [] _ refl 2 (omega arith) .done .1 (own-room first-fit library room known)
+a-resize library room known resizes = resizes 6 _ (in-six first-fit library room .once) [] [] _ refl 2 (omega arith) .done .1
+    (own-room first-fit library room known)
 
 -- so it cannot be one that never resizes
-pub never-resizes : (library : Library) → NeverResizes library → RoomForAlloc library (alloc first-fit) → Known library → RoomForResize library resize → ⊥
+pub never-resizes : (library : Library) → NeverResizes library → RoomForAlloc library (alloc first-fit) → Known library
+    → RoomForResize library resize → ⊥
 never-resizes library refuses room known resizes = refuses _ 2 _ (a-resize library room known resizes)
 
 -- nor one that moves a block on a resize: the number is known to stay
-pub resize-moves : (library : Library) → ResizeMoves library → RoomForAlloc library (alloc first-fit) → Known library → RoomForResize library resize → ⊥
+pub resize-moves : (library : Library) → ResizeMoves library → RoomForAlloc library (alloc first-fit) → Known library
+    → RoomForResize library resize → ⊥
 resize-moves library moves room known resizes =
     let done = a-resize library room known resizes in
     moves _ 2 _ done (known 6 _ (in-six first-fit library room .once) .resize-stays _ 2 done)
@@ -438,7 +450,8 @@ pub resize-reallocates : Known resizeReallocates → ⊥
 unfolding startOn allocBy regrantBy arenaGate requestGate sound chunksOf walked walkFrom walk meet lowest joined copied written write header enter
     strike
 resize-reallocates known =
-    let held : Run resizeReallocates 20 _ = next (next (begun (replicate 20 0) refl refl) (call (alloc first-fit 2)) tt) (call (alloc first-fit 2)) tt in
+    let held : Run resizeReallocates 20 _ = next (next (begun (replicate 20 0) refl refl) (call (alloc first-fit 2)) tt)
+    (call (alloc first-fit 2)) tt in
     let stays : _≡_ {A = ℕ} 4 14 = known 20 _ held .resize-stays 14 4 refl in
     omega arith
 
@@ -486,11 +499,13 @@ a-relocate library room known relocates =
     relocates 32 _ (o .once) e (inl refl) 2 (omega arith) .done .1 (λ short. omega (arith, short, small))
 
 -- so it cannot be one that never relocates
-pub never-relocates : (library : Library) → NeverRelocates library → RoomForAlloc library (alloc first-fit) → Known library → RoomForRelocate library relocate → ⊥
+pub never-relocates : (library : Library) → NeverRelocates library → RoomForAlloc library (alloc first-fit) → Known library
+    → RoomForRelocate library relocate → ⊥
 never-relocates library refuses room known relocates = refuses _ 2 _ (a-relocate library room known relocates)
 
 -- nor one that leaves the block where it is: it is known to have a new number
-pub relocate-stays : (library : Library) → RelocateStays library → RoomForAlloc library (alloc first-fit) → Known library → RoomForRelocate library relocate → ⊥
+pub relocate-stays : (library : Library) → RelocateStays library → RoomForAlloc library (alloc first-fit) → Known library
+    → RoomForRelocate library relocate → ⊥
 relocate-stays library stays room known relocates =
     let done = a-relocate library room known relocates in
     known 32 _ (in-thirty-two first-fit library room .once) .relocate-moves _ 2 done (stays _ 2 _ done)

@@ -15,14 +15,16 @@ use Rattle.layout.proofs.Reasons.{number-positive, number-injective}
 use Rattle.rules.specs.Answers.{Outcome, blockField, grantedField, noCall}
 use Rattle.rules.specs.Behaves.{Behaves}
 use Rattle.rules.specs.Fits.{first-fit, Policies, policyOf, AllFitting}
-use Rattle.rules.specs.Libraries.{Call, start, alloc, free, resize, relocate, realloc, size, view, report, write, read, Library, libraryBy, ours}
+use Rattle.rules.specs.Libraries.{Call, start, alloc, free, resize, relocate, realloc, size, view, report, write, read, Library, libraryBy}
+use Rattle.rules.specs.Libraries.{ours}
 use Rattle.rules.specs.Causes.{CallRefused, callFields, WantedRefused, wantedFields}
 use Rattle.rules.specs.Batches.{Wanted, aCall, unknown, wanted, madeSingly, served, wantedIn, filled, Batch, batchBy, batchOn}
 use Rattle.rules.specs.Batches.{Serves, Fills}
 use Rattle.rules.specs.declared.Request.{Request}
 use Rattle.rules.specs.declared.Served.{Served}
 use Rattle.rules.proofs.Fits.{all-fitting}
-use Rattle.rules.proofs.Calls.{start-behaves, alloc-by-behaves, alloc-behaves, free-behaves, resize-behaves, relocate-behaves, realloc-behaves, size-behaves}
+use Rattle.rules.proofs.Calls.{start-behaves, alloc-by-behaves, alloc-behaves, free-behaves, resize-behaves, relocate-behaves}
+use Rattle.rules.proofs.Calls.{realloc-behaves, size-behaves}
 use Rattle.rules.proofs.Calls.{report-behaves, write-behaves, read-behaves}
 
 -- ---- one request
@@ -192,4 +194,5 @@ batch-length a (r ∷ rs) =
 pub batch-sound : (a : List ℕ) (rs : List Request) → sound a ≡ true → sound (batchOn a rs .words) ≡ true
 batch-sound a [] s = rw (batch-none ours a) s
 batch-sound a (r ∷ rs) s =
-    rw (batch-more ours a r rs) (batch-sound (madeSingly ours (wantedIn r) a .words) rs (wanted-behaves policyOf all-fitting a (wantedIn r) .still-sound s))
+    rw (batch-more ours a r rs)
+    (batch-sound (madeSingly ours (wantedIn r) a .words) rs (wanted-behaves policyOf all-fitting a (wantedIn r) .still-sound s))

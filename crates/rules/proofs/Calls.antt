@@ -5,13 +5,15 @@ use Prim.Native.Nat.{ℕ}
 use Rattle.layout.specs.Reasons.{number}
 use Rattle.layout.specs.declared.Reason.{Reason}
 use Rattle.rules.specs.Answers.{Outcome}
-use Rattle.rules.specs.Calls.{startOn, allocBy, allocOn, allocBestOn, allocNextOn, freeOn, resizeOn, relocateOn, reallocOn, sizeOn, reportOn, writeOn, readOn}
+use Rattle.rules.specs.Calls.{startOn, allocBy, allocOn, allocBestOn, allocNextOn, freeOn, resizeOn, relocateOn, reallocOn, sizeOn, reportOn}
+use Rattle.rules.specs.Calls.{writeOn, readOn}
 use Rattle.rules.specs.Causes.{StartRefused, AllocRefused, BlockRefused, ResizeRefused, RelocateRefused, ReallocRefused, ReportRefused}
 use Rattle.rules.specs.Causes.{WriteRefused, ReadRefused}
 use Rattle.rules.specs.Behaves.{Behaves}
 use Rattle.rules.specs.Fits.{Policy, firstFit, bestFit, nextFit, Fitting}
 use Rattle.rules.proofs.Fits.{first-fitting, best-fitting, next-fitting}
-use Rattle.rules.proofs.CallCases.{Case, refuses, does, refused-unchanged, refused-zeros, start-case, Allots, alloc-by-case, free-case, size-case}
+use Rattle.rules.proofs.CallCases.{Case, refuses, does, refused-unchanged, refused-zeros, start-case, Allots, alloc-by-case, free-case}
+use Rattle.rules.proofs.CallCases.{size-case}
 use Rattle.rules.proofs.CallCases.{report-case}
 use Rattle.rules.proofs.RegrantCases.{resize-case, relocate-case, realloc-case}
 use Rattle.rules.proofs.Given.{refused-for, done-unless, start-gives, alloc-by-gives, free-gives, resize-gives, relocate-gives, realloc-gives}

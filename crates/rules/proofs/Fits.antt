@@ -2,16 +2,16 @@
 use mathlib.Core.Path.{_≡_, refl, ap}
 use mathlib.Core.Logic.{_↔_}
 use mathlib.Core.Bool.{Bool, true, false, false≢true, cond}
-use mathlib.Core.List.{List, [], _∷_, _++_}
-use Prim.Native.Nat.{ℕ, _+_, _≤_, _<_}
+use mathlib.Core.List.{List, [], _∷_}
+use Prim.Native.Nat.{ℕ, _<_}
 use native.Mathlib.Omega.{arith}
 use lib.Dec.{leb}
 use borrow.Author.Tests.{leb-true, leb-false}
 use Rattle.layout.specs.Numbers.{firstChunk}
-use Rattle.layout.specs.Chunks.{Chunk, free, live, size, total}
+use Rattle.layout.specs.Chunks.{Chunk, free, live}
 use Rattle.layout.proofs.Bools.{both}
 use Rattle.rules.specs.Spots.{Spot, nowhere, at, behind, lowest}
-use Rattle.rules.specs.Stands.{GapIn, NoGapIn}
+use Rattle.rules.specs.Stands.{NoGapIn}
 use Rattle.rules.specs.Fits.{Policy, fits, fitsFrom, orElseAt, tighter, firstFit, bestFit, nextFit, Picks, no-gap, a-gap, Fitting, first-fit}
 use Rattle.rules.specs.Fits.{best-fit, next-fit, policyOf, AllFitting}
 use Rattle.rules.proofs.Lowest.{lowest-hit, none-passes}

@@ -150,7 +150,8 @@ module _ (a : List ℕ) where
   pub relocate-gives : (b n : ℕ) (why : Reason) → RelocateRefused a b n why → relocateOn a b n .answer .code ≡ number why
   unfolding regrantBy
   relocate-gives b n = regrant-gives b n NoRoom relocated _ _
-      (λ (e, (r, (pre, s, post, is), h)). rw (sound-gate a e, block-held a b pre s post e is, request-gate a n r, picks-nowhere firstFit first-fitting (need n) (chunksOf a) .1 h))
+      (λ (e, (r, (pre, s, post, is), h)). rw
+      (sound-gate a e, block-held a b pre s post e is, request-gate a n r, picks-nowhere firstFit first-fitting (need n) (chunksOf a) .1 h))
       (λ h. absurd (h .1))
 
   -- realloc lacks room where the resize would move the block and the move lacks room

@@ -64,7 +64,8 @@ module _ (a : List ℕ) (e : sound a ≡ true) where
         none Damaged (l, s) = true≢false (sym e ∙ s)
         none NotABlock (s, h) = h
         none Zero (s, z) = omega arith
-        none TooLarge (s, m) = let r = sound-chunks a e .law in omega (arith, largest-is, counts-within (chunksOf a) (r .sizes) .widest-fits, r .fills)
+        none TooLarge (s, m) = let r = sound-chunks a e .law in omega
+            (arith, largest-is, counts-within (chunksOf a) (r .sizes) .widest-fits, r .fills)
         none NoRoom (s, (r, h)) =
             omega (
               arith,

@@ -1,13 +1,13 @@
 -- What each of the three fits picks, in words of the lesson, and that those words leave no choice.
 use mathlib.Core.Path.{_≡_, refl, sym, ap, _∙_}
 use mathlib.Core.Logic.{_↔_}
-use mathlib.Core.Bool.{Bool, true, false, true≢false, cond, _&&_}
+use mathlib.Core.Bool.{Bool, true, false, true≢false, cond}
 use mathlib.Core.List.{List, [], _∷_, _++_}
 use Prim.Native.Nat.{ℕ, _+_, _≤_, _<_}
 use native.Mathlib.Omega.{arith}
 use lib.Dec.{leb}
 use borrow.Author.Tests.{le-leb, leb-true, leb-false}
-use Rattle.layout.specs.Numbers.{firstChunk, leastSize}
+use Rattle.layout.specs.Numbers.{firstChunk}
 use Rattle.layout.specs.Chunks.{Chunk, free, live, size, total}
 use Rattle.layout.specs.Walk.{sound, chunksOf}
 use Rattle.layout.proofs.Bools.{both}
@@ -43,10 +43,12 @@ module _ (need : ℕ) (ks pre : List Chunk) (s : ℕ) (post : List Chunk) where
           → IsNext rover ks need (firstChunk + total pre)
       go (at pre′ k post′) q e =
           let here : lowest (fitsFrom rover need) firstChunk ks ≡ at pre (free s) post = q ∙ e in
-          let passed = both (leb rover (firstChunk + total pre)) (leb need s) (lowest-hit (fitsFrom rover need) firstChunk ks pre (free s) post here .2) in
+          let passed = both (leb rover (firstChunk + total pre)) (leb need s)
+          (lowest-hit (fitsFrom rover need) firstChunk ks pre (free s) post here .2) in
           let above = leb-true rover (firstChunk + total pre) (passed .0) in
           record {
-            none-between = λ over d t gap after. lies-lowest (fitsFrom rover need) need ks pre (free s) post here d t gap (from-rover rover d t gap after);
+            none-between = λ over d t gap after. lies-lowest (fitsFrom rover need) need ks pre (free s) post here d t gap
+                (from-rover rover d t gap after);
             once-round = λ under d t gap. absurd (omega (arith, above));
           }
       go nowhere q e =
@@ -169,7 +171,8 @@ one-start (m ∷ pre) k post (m′ ∷ pre′) l post′ z same starts =
 -- in a sound arena: what a fitting policy picks, if that has a property which leaves no choice of where it starts, is
 -- exactly the free chunk that fits and has the property
 module _ (policy : Policy) (fitting : Fitting policy) (Is : List Chunk → ℕ → ℕ → ℕ → Type 0)
-    (is : (need : ℕ) (ks pre : List Chunk) (s : ℕ) (post : List Chunk) → policy need ks ≡ at pre (free s) post → Is ks need (firstChunk + total pre) s)
+    (is : (need : ℕ) (ks pre : List Chunk) (s : ℕ) (post : List Chunk) → policy need ks ≡ at pre (free s) post
+    → Is ks need (firstChunk + total pre) s)
     (one : (ks : List Chunk) (need c s d t : ℕ) → GapFrom ks need c s → Is ks need c s → GapFrom ks need d t → Is ks need d t → c ≡ d)
   where
     exactly : (a : List ℕ) → sound a ≡ true → (need : ℕ) (pre : List Chunk) (s : ℕ) (post : List Chunk)
@@ -212,7 +215,8 @@ module _ (a : List ℕ) (e : sound a ≡ true) (need : ℕ) (pre : List Chunk) (
   pub next-exactly : (rover : ℕ) → (nextFit rover need (chunksOf a) ≡ at pre (free s) post)
       ↔ (GapIn (chunksOf a) need pre s post × IsNext rover (chunksOf a) need (firstChunk + total pre))
   next-exactly rover =
-      exactly (nextFit rover) (next-fitting rover) (λ ks need c s. IsNext rover ks need c) (λ need ks pre s post. next-is need ks pre s post rover) one
+      exactly (nextFit rover) (next-fitting rover) (λ ks need c s. IsNext rover ks need c)
+      (λ need ks pre s post. next-is need ks pre s post rover) one
       a e need pre s post
     where
       one : (ks : List Chunk) (need c s d t : ℕ) → GapFrom ks need c s → IsNext rover ks need c → GapFrom ks need d t → IsNext rover ks need d → c ≡ d

@@ -135,7 +135,8 @@ module _ (a : List ℕ) (b n : ℕ) where
   realloc-case = regrant-case NoRoom regranted _ _ (Regrants a b n)
       (λ e r pre s post is gap g. go pre s post e r is (stays-told a b (need n) pre s post e is) g)
     where
-      go : {way : Way} {gap : Spot} (pre : List Chunk) (s : ℕ) (post : List Chunk) → sound a ≡ true → LawfulRequest (length a) n → BlockAt a b pre s post
+      go : {way : Way} {gap : Spot} (pre : List Chunk) (s : ℕ) (post : List Chunk) → sound a ≡ true → LawfulRequest (length a) n
+          → BlockAt a b pre s post
           → Stays a b (need n) pre s post way → Picks (chunksOf a) (need n) gap
           → Case 2 a (ReallocRefused a b n) (Regrants a b n)
           (settle 2 a (granted NoRoom (orElse way (move b (s - headerWords) (grantFrom (need n) gap) a))))

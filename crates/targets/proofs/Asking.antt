@@ -4,12 +4,12 @@ use mathlib.Core.Path.{_≡_, refl, sym, ap, _∙_}
 use mathlib.Core.Logic.{_≢_}
 use mathlib.Core.Bool.{true, cond}
 use mathlib.Core.List.{List}
-use Prim.Native.Nat.{ℕ, _+_, _≤_}
+use Prim.Native.Nat.{ℕ, _+_}
 use native.Mathlib.Omega.{arith}
 use lib.Dec.{eqb}
 use lib.ListN.{length}
-use Rattle.layout.specs.Numbers.{firstChunk, need, greatestLength}
-use Rattle.layout.specs.Chunks.{Chunk, free, total}
+use Rattle.layout.specs.Numbers.{firstChunk, need}
+use Rattle.layout.specs.Chunks.{total}
 use Rattle.layout.specs.Walk.{sound, chunksOf}
 use Rattle.layout.specs.Reasons.{arenaGate, requestGate}
 use Rattle.layout.specs.declared.Gate.{Gate}
@@ -50,7 +50,8 @@ module _ (a : List ℕ) (n : ℕ) where
   unfolding allocBy askedFor needIn
   ask-refused why e policy = go (arenaGate a) refl (requestGate (length a) n) refl e
     where
-      go : (arena : Gate) → arenaGate a ≡ arena → (request : Gate) → requestGate (length a) n ≡ request → NotAsked why ≡ askedPast arena (askedBy request (need n))
+      go : (arena : Gate) → arenaGate a ≡ arena → (request : Gate) → requestGate (length a) n ≡ request
+          → NotAsked why ≡ askedPast arena (askedBy request (need n))
           → Gives (allocBy policy a n) (refusal 2 why) a
       go (Shut r) q request h p = let is : why ≡ r = cc in rw (q, is) (record { answers = refl; leaves = refl })
       go Open q (Shut r) h p = let is : why ≡ r = cc in rw (q, h, is) (record { answers = refl; leaves = refl })
@@ -68,7 +69,8 @@ module _ (a : List ℕ) (n : ℕ) where
   unfolding allocBy askedFor needIn
   ask-wanted words e = go (arenaGate a) refl (requestGate (length a) n) refl e
     where
-      go : (arena : Gate) → arenaGate a ≡ arena → (request : Gate) → requestGate (length a) n ≡ request → Need words ≡ askedPast arena (askedBy request (need n))
+      go : (arena : Gate) → arenaGate a ≡ arena → (request : Gate) → requestGate (length a) n ≡ request
+          → Need words ≡ askedPast arena (askedBy request (need n))
           → Wanted words
       go (Shut r) q request h p = absurd (let z : _≡_ {A = ℕ} 0 1 = cc in omega arith)
       go Open q (Shut r) h p = absurd (let z : _≡_ {A = ℕ} 0 1 = cc in omega arith)
@@ -88,7 +90,8 @@ module _ (policy : Policy) (fitting : Fitting policy) {a : List ℕ} {n words : 
   pub picked-by : Picked a words place
   picked-by = (w .is-sound, w .needed, (policy words (chunksOf a), (fitting words (chunksOf a), searched)))
 
-  pub granted-by : (answer : Granted) (after : List ℕ) → GrantsFrom a words place answer after → Gives (allocBy policy a n) (grantedNumbers answer) after
+  pub granted-by : (answer : Granted) (after : List ℕ) → GrantsFrom a words place answer after
+      → Gives (allocBy policy a n) (grantedNumbers answer) after
   granted-by answer after g = w .gives policy (g (policy words (chunksOf a)) (fitting words (chunksOf a), searched))
 
 -- ---- next fit

@@ -7,7 +7,8 @@ use mathlib.Core.List.{List, [], _∷_, _++_}
 use lib.ListN.{length, getD}
 use lib.Dec.{eqb}
 use Rattle.rules.specs.Answers.{Answer, Outcome, success, noCall}
-use Rattle.rules.specs.Calls.{startOn, allocOn, allocBestOn, allocNextOn, roverAfter, freeOn, resizeOn, relocateOn, reallocOn, reportOn, sizeOn, viewOn}
+use Rattle.rules.specs.Calls.{startOn, allocOn, allocBestOn, allocNextOn, roverAfter, freeOn, resizeOn, relocateOn, reallocOn, reportOn, sizeOn}
+use Rattle.rules.specs.Calls.{viewOn}
 use Rattle.answers.specs.Padded.{padded}
 use Rattle.spelling.specs.Copies.{Begins}
 use Rattle.trials.specs.declared.replies.Reply.{Reply}

@@ -34,7 +34,8 @@ same-length c = search needs
 returns : tie.Need-returns
 returns c =
     let searched = c .before .before .before .before in
-    granted-by firstFit first-fitting (wanted (searched .before .before .before)) (searched .first-fit .ensures) (c .before .before .grant .result) _ (c .before .before .grant .ensures)
+    granted-by firstFit first-fitting (wanted (searched .before .before .before)) (searched .first-fit .ensures)
+    (c .before .before .grant .result) _ (c .before .before .grant .ensures)
 
 same-length-2 : tie.Need-same-length-2
 same-length-2 c = search needs

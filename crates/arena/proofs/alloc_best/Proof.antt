@@ -34,7 +34,8 @@ same-length c = search needs
 returns : tie.Need-returns
 returns c =
     let searched = c .before .before .before .before in
-    granted-by bestFit best-fitting (wanted (searched .before .before .before)) (searched .best-fit .ensures) (c .before .before .grant .result) _ (c .before .before .grant .ensures)
+    granted-by bestFit best-fitting (wanted (searched .before .before .before)) (searched .best-fit .ensures) (c .before .before .grant .result) _
+    (c .before .before .grant .ensures)
 
 same-length-2 : tie.Need-same-length-2
 same-length-2 c = search needs

@@ -29,7 +29,8 @@ searched : (c : tie.After-next-fit)
     c .next-fit .result ≡ placeOf (nextFit (x .rover) (asked .asked .given .0 .0) (chunksOf (x .a .now)))
 searched c =
     let asked = asked-at c in
-    c .next-fit .ensures ∙ ap (λ (rover : ℕ). placeOf (nextFit rover (asked .asked .given .0 .0) (chunksOf (began asked .args .a .now)))) (c .before .wide .ensures)
+    c .next-fit .ensures ∙ ap (λ (rover : ℕ). placeOf (nextFit rover (asked .asked .given .0 .0) (chunksOf (began asked .args .a .now))))
+    (c .before .wide .ensures)
 
 ask-requires : tie.Need-ask-requires
 ask-requires c κs = search needs
@@ -61,7 +62,8 @@ returns : tie.Need-returns
 returns c =
     let started = c .before .before .before .before in
     let found = started .before in
-    rw (started .start-of .ensures) (found-roves _ _ _ (wanted (asked-at found)) (searched found) (c .before .before .grant .result) _ (c .before .before .grant .ensures))
+    rw (started .start-of .ensures)
+    (found-roves _ _ _ (wanted (asked-at found)) (searched found) (c .before .before .grant .result) _ (c .before .before .grant .ensures))
 
 same-length-2 : tie.Need-same-length-2
 same-length-2 c = search needs

@@ -25,7 +25,8 @@ named : (c : tie.Else1 Inv-loop μ-loop)
     → let d = c .before .before .before .before in
     let x = d .before .before .args in
     let next = c .before .wide .result in
-    (rest : List (ℕ × ℕ)) × Undercutting (x .a .now) (x .need) (d .loop .least) (d .loop .best) (d .loop .link) ((next, getD (x .a .now) next 0) ∷ rest)
+    (rest : List (ℕ × ℕ)) × Undercutting (x .a .now) (x .need) (d .loop .least) (d .loop .best) (d .loop .link)
+    ((next, getD (x .a .now) next 0) ∷ rest)
 named c =
     let (list, g) = c .before .before .before .before .loop .inv in
     let (rest, e) = chain-goes-on _ _ list (g .leads) (c .before .wide .result) (c .before .wide .ensures) (c .if1 .left) in

@@ -52,7 +52,8 @@ stood c = reads _ _ _ _ _ _ (c .pre .0 .3)
 
 -- the free chunk that the search found
 gap : (c : tie.After-place)
-    → let x = entered c .args in FoundGap (firstFit (x .need) (chunksOf (x .a .now))) (x .a .now) (x .need) (c .place .given .0 .0) (c .place .given .0 .1 .0)
+    → let x = entered c .args in FoundGap (firstFit (x .need) (chunksOf (x .a .now))) (x .a .now) (x .need) (c .place .given .0 .0)
+    (c .place .given .0 .1 .0)
 gap c =
     let x = entered c .pre in
     found-gap _ _ _ (first-fitting _ _) _ _ (x .0 .3 .is-sound) (sym (c .place .given .1) ∙ c .before .before .first-fit .ensures)
