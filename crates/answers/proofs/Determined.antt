@@ -1,16 +1,21 @@
 -- A contract on the numbers leaves no choice: two results that it allows are the same.
+use Prim.Native.Nat.{ℕ}
 use mathlib.Core.Path.{_≡_, refl, sym, ap, _∙_}
+use mathlib.Core.List.{List}
 use native.Mathlib.Omega.{arith}
 use Rattle.layout.specs.Reasons.{number}
 use Rattle.layout.specs.declared.Reason.{Reason}
 use Rattle.layout.proofs.Reasons.{number-positive, number-injective}
 use Rattle.rules.specs.Answers.{Answer, Outcome}
+use Rattle.rules.specs.Calls.{Roves}
+use Rattle.rules.proofs.Rovers.{roves-once}
 use Rattle.answers.specs.Readings.{finishNumbers, grantedNumbers, sizedNumbers, reportedNumbers, writtenNumbers}
 use Rattle.answers.specs.Determined.{Determined}
 use Rattle.answers.specs.declared.Finish.{Finish}
 use Rattle.answers.specs.declared.Finish.the-variants.{Done, Refused as NotDone}
 use Rattle.answers.specs.declared.Granted.{Granted}
 use Rattle.answers.specs.declared.Granted.the-variants.{Block, Refused as NotGranted}
+use Rattle.answers.specs.declared.Roved.{Roved}
 use Rattle.answers.specs.declared.Sized.{Sized}
 use Rattle.answers.specs.declared.Sized.the-variants.{Words, Refused as NotSized}
 use Rattle.answers.specs.declared.Reported.{Reported}
@@ -85,3 +90,12 @@ reported-determined = determined reportedNumbers reported-injective
 
 pub written-determined : (outcome : Outcome) → Determined writtenNumbers outcome
 written-determined = determined writtenNumbers written-injective
+
+-- so for next fit, and the rover with it
+pub roved-determined : (a : List ℕ) (rover n : ℕ) (r r′ : Roved) (after after′ : List ℕ)
+    → Roves a rover n (grantedNumbers (r .granted)) after (r .rover) → Roves a rover n (grantedNumbers (r′ .granted)) after′ (r′ .rover)
+    → (r ≡ r′) × (after ≡ after′)
+roved-determined a rover n r r′ after after′ g g′ =
+    let (answers, words, moved) = roves-once g g′ in
+    let same = granted-injective (r .granted) (r′ .granted) answers in
+    (rw (same, moved), words)

@@ -17,7 +17,7 @@ use Rattle.rules.specs.Rules.{joined, copied}
 use Rattle.rules.specs.Pictures.{pictureOf, framesFrom, line, wordsIn, standingFrom, same, said}
 use Rattle.digits.specs.Digits.{upper, worth, glyph}
 use Rattle.rules.specs.Calls.{startOn, allocBy, freeOn, regrantBy, reportOn, writeOn, readOn}
-use Rattle.rules.specs.Fits.{first-fit, best-fit, next-fit}
+use Rattle.rules.specs.Fits.{bestFit, first-fit, best-fit, next-fit}
 use Rattle.rules.specs.Libraries.{Call, start, alloc, free, resize, relocate, realloc, size, view, report, write as writePicture, read}
 use Rattle.rules.specs.Libraries.{ours}
 use Rattle.rules.specs.Batches.{Wanted, aCall, unknown, wanted, wantedIn, batchBy}
@@ -115,6 +115,25 @@ pub table-ledger : afterAll (map call rowCalls) fresh .ledger ≡ entry 4 16 ∷
 unfolding startOn allocBy freeOn regrantBy reportOn arenaGate requestGate sound chunksOf walked walkFrom walk meet lowest joined copied written write
     header enter strike
 table-ledger = refl
+
+-- ---- the three fits in one run
+
+-- of one free chunk all three take the last words, wherever the rover is; then a block is freed below another, and best
+-- fit takes its place again, where first fit would take the lowest chunk
+abbrev fitted : List Event
+fitted = call (alloc best-fit 2) ∷ call (alloc (next-fit 31) 2) ∷ call (alloc first-fit 2) ∷ call (free 26) ∷ call (alloc best-fit 1) ∷ []
+
+pub fits-answers :
+    answers (play freshRun fitted (tt, (tt, (tt, (tt, (tt, tt))))))
+    ≡ success [] ∷ success (30 ∷ 2 ∷ []) ∷ success (26 ∷ 2 ∷ []) ∷ success (22 ∷ 2 ∷ []) ∷ success [] ∷ success (26 ∷ 2 ∷ []) ∷ []
+unfolding startOn allocBy freeOn arenaGate requestGate sound chunksOf walked walkFrom walk meet lowest bestFit joined written write header enter
+    strike
+fits-answers = refl
+
+pub fits-ledger : afterAll fitted fresh .ledger ≡ entry 22 2 ∷ entry 26 2 ∷ entry 30 2 ∷ []
+unfolding startOn allocBy freeOn arenaGate requestGate sound chunksOf walked walkFrom walk meet lowest bestFit joined written write header enter
+    strike
+fits-ledger = refl
 
 -- a record that asks this, with an old answer in it
 abbrev unanswered : ℕ → ℕ → ℕ → Request

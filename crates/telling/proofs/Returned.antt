@@ -4,7 +4,7 @@ use mathlib.Core.Path.{_≡_, refl, sym, ap, _∙_}
 use mathlib.Core.List.{List, [], _∷_}
 use lib.ListN.{getD}
 use Rattle.rules.specs.Answers.{Answer, Outcome}
-use Rattle.rules.specs.Calls.{writeOn}
+use Rattle.rules.specs.Calls.{allocNextOn, Roves, writeOn}
 use Rattle.answers.specs.Readings.{finishNumbers, grantedNumbers, sizedNumbers, reportedNumbers, writtenNumbers}
 use Rattle.answers.specs.Padded.{padded}
 use Rattle.answers.specs.Determined.{Determined}
@@ -60,3 +60,11 @@ returned-determined outcome r r′ after after′ g g′ =
 pub returned-writes : (a text : List ℕ) (r r′ : ℕ × List ℕ) (after after′ : List ℕ) → Writes a text (returned (r .0) (r .1)) after
     → Writes a text (returned (r′ .0) (r′ .1)) after′ → (r ≡ r′) × (after ≡ after′)
 returned-writes a text = writes-determined (λ (x : ℕ × List ℕ). returned (x .0) (x .1)) a text (returned-determined (writeOn a text))
+
+-- so of next fit, and the rovers with them
+pub returned-roves : (a : List ℕ) (rover n : ℕ) (r r′ : ℕ × List ℕ) (after after′ : List ℕ) (moved moved′ : ℕ)
+    → Roves a rover n (returned (r .0) (r .1)) after moved → Roves a rover n (returned (r′ .0) (r′ .1)) after′ moved′
+    → (r ≡ r′) × (after ≡ after′) × (moved ≡ moved′)
+returned-roves a rover n r r′ after after′ moved moved′ g g′ =
+    let (same, words) = returned-determined (allocNextOn a rover n) r r′ after after′ (g .gives) (g′ .gives) in
+    (same, words, g .moves ∙ sym (g′ .moves))
