@@ -1,4 +1,5 @@
--- Over every run of our calls, under any policies that are fitting, the ledger agrees with the arena, and the blocks that go on keep their words.
+-- Over every run of our calls, under any policies that are fitting, the ledger agrees with the arena, and the blocks
+-- that go on keep their words.
 use mathlib.Core.Path.{_≡_, sym, ap, _∙_}
 use mathlib.Core.Logic.{_⊎_, inl, inr, ⊎-elim}
 use mathlib.Core.Bool.{true}

@@ -28,8 +28,8 @@ pub rover-stays : (a : List ℕ) (rover n : ℕ) → allocNextOn a rover n .answ
 unfolding roverAfter
 rover-stays a rover n refused = rw (ne-eqb _ 0 refused)
 
--- a call that is done moves it to a free chunk that fitted, the next one from the rover on, and grants the last words of
--- that chunk or all of it
+-- a call that is done moves it to a free chunk that fitted, the next one from the rover on, and grants the last words
+-- of that chunk or all of it
 pub record Moved (a : List ℕ) (rover n : ℕ) : Type 0 where
   pub s : ℕ
   pub gap : GapFrom (chunksOf a) (need n) (roverAfter a rover n) s

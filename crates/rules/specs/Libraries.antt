@@ -5,8 +5,8 @@ use Rattle.rules.specs.Answers.{Outcome, success}
 use Rattle.rules.specs.Fits.{Fit, Policies, policyOf}
 use Rattle.rules.specs.Calls.{startOn, allocBy, freeOn, resizeOn, relocateOn, reallocOn, sizeOn, viewOn, reportOn, writeOn, readOn}
 
--- `fit` is the fit that an alloc is under, `w` how many words are asked for, `b` a block's number, `text` the bytes of a
--- lent text
+-- `fit` is the fit that an alloc is under, `w` how many words are asked for, `b` a block's number, `text` the bytes of
+-- a lent text
 pub data Call : Type 0 where
   start : Call
   alloc : (fit : Fit) (w : ℕ) → Call

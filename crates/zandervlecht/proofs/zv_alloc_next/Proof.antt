@@ -1,7 +1,7 @@
 -- `zandervlecht::zv_alloc_next` meets its contract: a walk of its MIR, by hand, since the borrow checker covers no
 -- reference to a struct. The rover's borrow is opened, its number read, the arena and the lent array are passed on to
--- `tell_next` for good, the number that it hands back is stored, and the borrow is closed. Of `tell_next` the walk knows
--- its contract alone.
+-- `tell_next` for good, the number that it hands back is stored, and the borrow is closed. Of `tell_next` the walk
+-- knows its contract alone.
 use mathlib.Core.Path.{_≡_, refl, ap}
 use Prim.Native.Nat.{ℕ, _<_, _^_}
 use mathlib.Core.List.{[], _∷_, List}
@@ -87,8 +87,8 @@ TellNext 𝓤 H A mem run = tripleOf 𝓤 H A tell-next.signature (tell-next.spe
 abbrev roverVal : ℕ → Val
 roverVal at = vstruct (vcons (vint w32 at) vnil)
 
--- the arena is `ys` at (b, o) under γ, lent for κ; the rover is `h` at (b′, o′) under γ′, lent for κ′; the array is `zs`
--- at (b″, o″) under γ″, lent for κ″
+-- the arena is `ys` at (b, o) under γ, lent for κ; the rover is `h` at (b′, o′) under γ′, lent for κ′; the array is
+-- `zs` at (b″, o″) under γ″, lent for κ″
 module _ {M : Type 1} (𝓤 : URA M) (H : Heap 𝓤) (A : Atoms 𝓤) (W : Given 𝓤 H A) (at-mem : Memory → SProp 𝓤) (run : Routine → Fun 𝓤) (κ κ′ κ″ : Lft)
     (q q′ q″ : Share) (b o : ℕ) (γ : GName) (ys : List ℕ) (b′ o′ : ℕ) (γ′ : GName) (h : Rover) (n : ℕ) (n-fits : n < 2 ^ 32) (b″ o″ : ℕ) (γ″ : GName)
     (zs : List ℕ) where
@@ -155,8 +155,8 @@ module _ {M : Type 1} (𝓤 : URA M) (H : Heap 𝓤) (A : Atoms 𝓤) (W : Given
       owned ! u32 (Is u32) (uint-makes 𝓤 H A W w32) (h .at) _ (refl, h-fits) $ fjoin ! $
       move ! (2 ∷ 0 ∷ []) $ fjoin ! $ move ! (1 ∷ 0 ∷ []) $ join ! $ frame ! $ done !
 
-  -- what is left at the end: `answer` is handed back, the rover is at `moved`, `ws` is left in the arena and `vs` in the
-  -- array
+  -- what is left at the end: `answer` is handed back, the rover is at `moved`, `ws` is left in the arena and `vs` in
+  -- the array
   exits : (answer moved : ℕ) (ws vs : List ℕ) → Roves ys (h .at) n (returned answer vs) ws moved → length ws ≡ length ys → answer < 2 ^ 32
       → ent 𝓤 (⋆ 𝓤 H A
       (‵ (fobs γ′ (rover.the-row .coded .code (record { at = moved })))
@@ -229,8 +229,8 @@ module _ {M : Type 1} (𝓤 : URA M) (H : Heap 𝓤) (A : Atoms 𝓤) (W : Given
         move ! (1 ∷ []) $ peeks ! rover.the-row (Is rover.the-row) (shows 𝓤 H A rover.the-row) h (roverVal (h .at) ∷ []) (λ g.
         let h-fits = laws.owed rover.the-type rover-laws.the-laws h _ g .0 .1 in
         move ! (1 ∷ 0 ∷ []) $
-        -- [the rover's cell; what it owns; the open borrow; obs; auth; κ″; true; κ; the array; true; n; the arena; _9; …]:
-        -- its number is read, and the references are made that go on
+        -- [the rover's cell; what it owns; the open borrow; obs; auth; κ″; true; κ; the array; true; n; the arena; _9;
+        -- …]: its number is read, and the references are made that go on
         assigns ! (of-opd ! (load ! (from ! (hop ! (look ! 26 refl) (fld ! refl (stop !)))) (look-in ! 0 (sub ! 0 refl (whole !)))))
         (from ! (stop !)) (init ! 20 refl (tt, record { fits = h-fits })) $
         assigns ! (addr ! (from ! (fld ! refl (hop ! (look-in ! 28 (sub ! 0 refl (whole !))) (stop !)))))
