@@ -120,7 +120,7 @@ static void run_traces(void)
 {
     uint32_t seed;
 
-    print_heading("Whole traces: 24,000 random calls of all kinds. The time of the loop around them is taken off.");
+    print_heading("Whole traces: 24,000 random calls of all kinds but the two other fits. The time of the loop around them is taken off.");
     for (seed = 1; seed <= seeds; seed++) {
         run_trace(&few_moves, seed);
         run_trace(&many_moves, seed);

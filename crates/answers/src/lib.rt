@@ -77,7 +77,7 @@ pub fn finish_numbers(finish: Finish) -> Numbers
     }
 }
 
-// What alloc, resize, relocate and realloc answer, in numbers.
+// What alloc, alloc_best, resize, relocate and realloc answer, in numbers.
 pub fn granted_numbers(granted: Granted) -> Numbers
     ensures { λ r. ⌜ r ≡ padded (grantedNumbers granted) ⌝ }
 {

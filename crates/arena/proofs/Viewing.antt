@@ -1,18 +1,17 @@
 -- The part of an arena that is a block: its words, where they lie, and that the arena has them.
 use mathlib.Core.Path.{_≡_, sym, ap, _∙_}
-use mathlib.Core.List.{List, [], _∷_, _++_}
+use mathlib.Core.List.{List, [], _∷_}
 use Prim.Native.Nat.{ℕ, _+_, _-_, _≤_}
 use native.Mathlib.Nat.{zero-add}
 use native.Mathlib.Omega.{arith}
 use borrow.Author.Tests.{ne-eqb}
 use lib.ListN.{length, getD, take, drop}
-use Rattle.layout.specs.Numbers.{firstChunk, headerWords}
-use Rattle.layout.specs.Chunks.{live, total}
+use Rattle.layout.specs.Numbers.{headerWords}
+use Rattle.layout.specs.Chunks.{live}
 use Rattle.layout.specs.Reasons.{number}
 use Rattle.layout.specs.declared.Reason.{Reason}
-use Rattle.layout.proofs.Holds.{Lawful, total-append}
 use Rattle.layout.proofs.Reasons.{number-positive}
-use Rattle.layout.proofs.Round.{sound-chunks}
+use Rattle.layout.proofs.Round.{sound-around}
 use Rattle.rules.specs.Answers.{Answer, Outcome, success}
 use Rattle.rules.specs.Calls.{sizeOn, viewOn}
 use Rattle.rules.specs.Causes.{BlockRefused}
@@ -51,9 +50,7 @@ module _ (a : List ℕ) (b : ℕ) (sized : Sized) (answers : sizedNumbers sized 
         go (refuses why r) p = absurd (omega (arith, ap (λ (r : Answer). r .code) p, number-positive why))
         go (does (measures is-sound pre s post is)) p =
             let size-is : granted ≡ s - headerWords = ap (λ (r : Answer). getD (r .values) 0 0) p in
-            let l : Lawful (length a) (pre ++ live s ∷ post) = rw (is .same) at (sound-chunks a is-sound .law) in
-            let fills : firstChunk + (total pre + (s + total post)) ≡ length a = simp total-append at (l .fills) in
-            omega (arith, is .number-is, block-sizes a b pre s post is-sound is .1)
+            omega (arith, sound-around a pre (live s) post is-sound (is .same), is .number-is, block-sizes a b pre s post is-sound is .1)
 
 -- a view answers a part of the arena: two that its promise allows hold the same words, and lie at the same place
 pub view-determined : (a : List ℕ) (place : ℕ × ℕ) (b : ℕ) (part part′ : List ℕ) (lies lies′ : ℕ × ℕ)

@@ -11,7 +11,6 @@ use passes::fits;
 use targets::Asked;
 use targets::Located;
 use targets::Target;
-ghost use mathlib.Core.Path.{_≡_};
 ghost use denote.Ref.{ptr};
 ghost use Rattle.rules.specs.Answers.{Gives};
 ghost use Rattle.rules.specs.Calls.{startOn, allocOn, allocBestOn, Roves, freeOn, resizeOn, relocateOn, reallocOn, sizeOn, reportOn};

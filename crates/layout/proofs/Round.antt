@@ -2,19 +2,19 @@
 -- found is written.
 use mathlib.Core.Path.{_≡_, refl, sym, ap, _∙_}
 use mathlib.Core.Bool.{Bool, true, false, cond, _&&_}
-use mathlib.Core.List.{List, [], _∷_}
+use mathlib.Core.List.{List, [], _∷_, _++_}
 use Prim.Native.Nat.{ℕ, _+_, _-_, _%_, _≤_}
 use native.Mathlib.Omega.{arith}
 use lib.Dec.{leb, eqb}
 use lib.ListN.{length, getD}
 use borrow.Author.Tests.{eqb-true, eq-eqb, ne-eqb, le-leb}
 use Rattle.layout.specs.Numbers.{firstChunk, listWord, leastSize, leastLength, greatestLength, liveMark, lawful}
-use Rattle.layout.specs.Chunks.{Chunk, free, live, total, firstFree, written}
+use Rattle.layout.specs.Chunks.{Chunk, free, live, size, total, firstFree, written}
 use Rattle.layout.specs.Walk.{Met, end, chunk, nothing, Walked, broken, whole, withChunk, isWhole, chunksIn, sizeFits, meet, walkFrom, walked}
 use Rattle.layout.specs.Walk.{sound, chunksOf}
 use Rattle.layout.proofs.Bools.{both, lawful-bounds}
 use Rattle.layout.proofs.Walking.{from-end, from-nothing, from-chunk, fits-bounds}
-use Rattle.layout.proofs.Holds.{Sizes, Holds, Spaced, Lawful, link-unmarked}
+use Rattle.layout.proofs.Holds.{Sizes, Holds, Spaced, Lawful, link-unmarked, total-append}
 use Rattle.layout.proofs.Written.{Arena, written-arena, written-fixed}
 
 -- the words `a` from `c` on are those of `ks`, where the links want the next free chunk at `want`, and `joined` says
@@ -200,6 +200,11 @@ sound-lawful a e = both (lawful (length a)) _ e .0
 pub sound-chunks : (a : List ℕ) → sound a ≡ true → Arena a (chunksOf a)
 unfolding chunksOf
 sound-chunks a e = let (ks, p, r) = sound-arena a e in rw p r
+
+-- a chunk of it, and those before and after, fill the arena
+pub sound-around : (a : List ℕ) (pre : List Chunk) (k : Chunk) (post : List Chunk) → sound a ≡ true → chunksOf a ≡ pre ++ k ∷ post
+    → firstChunk + (total pre + (size k + total post)) ≡ length a
+sound-around a pre k post e same = simp total-append at (rw same at (sound-chunks a e .law .fills))
 
 -- ---- the round trip
 

@@ -15,7 +15,8 @@ use Rattle.rules.specs.Answers.{Outcome, success, refusal}
 use Rattle.rules.specs.Rooms.{Needed}
 use Rattle.rules.specs.Pictures.{said}
 use Rattle.rules.specs.Causes.{LawfulRequest, ReadRefused}
-use Rattle.rules.specs.Fits.{Policies, AllFitting}
+use Rattle.rules.specs.Fits.{Policies}
+use Rattle.rules.specs.Picks.{AllFitting}
 use Rattle.rules.specs.Libraries.{Call, start, alloc, free, resize, relocate, realloc, size, view, report, write, read, libraryBy}
 use Rattle.layout.proofs.Round.{sound-lawful}
 use Rattle.rules.proofs.Gates.{request-needed}
@@ -113,7 +114,7 @@ module _ (n : ℕ) (a : List ℕ) (ledger : Ledger) (g : Agrees n a ledger) wher
 
   -- under any policies that are fitting
   module _ (policies : Policies) (fitting : AllFitting policies) where
-    pub call-noted : (c : Call) → CallNoted n a ledger c ((libraryBy policies) c a)
+    pub call-noted : (c : Call) → CallNoted n a ledger c (libraryBy policies c a)
     call-noted start = kept (case-goes start g start-goes (start-case a))
     call-noted (alloc fit w) = kept (case-goes (alloc fit w) g (alloc-goes w) (alloc-by-case (policies fit) (fitting fit) a w))
     call-noted (free b) = kept (case-goes (free b) g (free-goes b) (free-case a b))
@@ -127,7 +128,7 @@ module _ (n : ℕ) (a : List ℕ) (ledger : Ledger) (g : Agrees n a ledger) wher
     call-noted (read text) = read-noted text (read-case text a)
 
     -- either way the ledger agrees with the words
-    pub call-agrees : (c : Call) → Agrees n ((libraryBy policies) c a .words) (ledgerAfter (call c) ((libraryBy policies) c a .answer) ledger)
+    pub call-agrees : (c : Call) → Agrees n (libraryBy policies c a .words) (ledgerAfter (call c) (libraryBy policies c a .answer) ledger)
     call-agrees c = go (call-noted c)
       where
         go : {outcome : Outcome} → CallNoted n a ledger c outcome → Agrees n (outcome .words) (ledgerAfter (call c) (outcome .answer) ledger)

@@ -1,5 +1,6 @@
 -- Demand 3, whole: of our calls under any policies that are fitting, and so of our calls.
-use Rattle.rules.specs.Fits.{Policies, policyOf, AllFitting}
+use Rattle.rules.specs.Fits.{Policies, policyOf}
+use Rattle.rules.specs.Picks.{AllFitting}
 use Rattle.rules.specs.Libraries.{libraryBy, ours}
 use Rattle.rules.proofs.Fits.{all-fitting}
 use Rattle.ledger.specs.Demands.{DemandThree}

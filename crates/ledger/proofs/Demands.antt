@@ -3,7 +3,8 @@
 use mathlib.Core.Path.{sym, ap, _∙_}
 use mathlib.Core.Bool.{true≢false}
 use Rattle.rules.specs.Answers.{Outcome}
-use Rattle.rules.specs.Fits.{Fit, Policies, AllFitting}
+use Rattle.rules.specs.Fits.{Fit, Policies}
+use Rattle.rules.specs.Picks.{AllFitting}
 use Rattle.rules.specs.Libraries.{alloc, resize, relocate, realloc, read, libraryBy}
 use Rattle.rules.proofs.Calls.{start-behaves}
 use Rattle.rules.proofs.PictureCalls.{read-leaves, reads-sound}
@@ -20,7 +21,7 @@ module _ (policies : Policies) (fitting : AllFitting policies) where
 
   pub receives : Receives (libraryBy policies)
   receives a text = (
-    λ z. let (s, e, d) = read-leaves text a z in ((libraryBy policies) (read text) a .words, s, e, d),
+    λ z. let (s, e, d) = read-leaves text a z in (libraryBy policies (read text) a .words, s, e, d),
     λ (ws, s, e, d). ap (λ (outcome : Outcome). outcome .answer .code) (reads-sound text a ws s e d),
   )
 

@@ -11,7 +11,8 @@ use Rattle.layout.specs.Walk.{chunksOf}
 use Rattle.rules.specs.Rules.{freeChunks}
 use Rattle.rules.specs.Rooms.{roomWords}
 use Rattle.rules.specs.Crumbs.{crumb, counted, freeSizes}
-use Rattle.rules.specs.Fits.{Fit, Policies, AllFitting}
+use Rattle.rules.specs.Fits.{Fit, Policies}
+use Rattle.rules.specs.Picks.{AllFitting}
 use Rattle.rules.specs.Libraries.{Call, alloc, free, resize, relocate, realloc, libraryBy}
 use Rattle.rules.proofs.Searches.{BlockAt}
 use Rattle.rules.proofs.Crumbs.{crumbsOf, alloc-by-crumbs, resize-crumbs, realloc-stays-crumbs, free-crumbs, relocate-crumbs, realloc-crumbs}
@@ -53,7 +54,7 @@ module _ (policies : Policies) (fitting : AllFitting policies) where
 
   -- so it is enough to look at the arena
   by-arena : {n : ℕ} {s : State} → Run (libraryBy policies) n s → (c : Call) (more : ℕ)
-      → crumbsOf ((libraryBy policies) c (s .words) .words) ≤ more + crumbsOf (s .words)
+      → crumbsOf (libraryBy policies c (s .words) .words) ≤ more + crumbsOf (s .words)
       → counted crumb (gaps n (after (libraryBy policies) (call c) s .ledger)) ≤ more + counted crumb (gaps n (s .ledger))
   by-arena run c more few = omega (arith, few, run-counted crumb refl run, run-counted crumb refl (next run (call c) tt))
 
@@ -71,7 +72,7 @@ module _ (policies : Policies) (fitting : AllFitting policies) where
   -- a block of the ledger is a chunk, with its header
   listed-crumbs : (calls : ℕ → Call)
       → ((a : List ℕ) (b : ℕ) (pre : List Chunk) (s : ℕ) (post : List Chunk) → BlockAt a b pre s post
-      → crumbsOf ((libraryBy policies) (calls b) a .words) ≤ crumb s + crumbsOf a)
+      → crumbsOf (libraryBy policies (calls b) a .words) ≤ crumb s + crumbsOf a)
       → OneCrumbMore (libraryBy policies) calls
   listed-crumbs calls few n s run e listed =
       let g = run-agrees policies fitting run in

@@ -7,7 +7,8 @@ use lib.Dec.{eqb}
 use lib.ListN.{getD}
 use borrow.Author.Tests.{eqb-true}
 use Rattle.layout.proofs.Bools.{both}
-use Rattle.rules.specs.Fits.{Policies, AllFitting}
+use Rattle.rules.specs.Fits.{Policies}
+use Rattle.rules.specs.Picks.{AllFitting}
 use Rattle.rules.specs.Libraries.{Library, libraryBy}
 use Rattle.ledger.specs.Events.{Event, call, store}
 use Rattle.ledger.specs.Ledger.{Held}

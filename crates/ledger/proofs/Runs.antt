@@ -7,7 +7,8 @@ use Prim.Native.Nat.{ℕ, _+_, _<_}
 use native.Mathlib.Omega.{arith}
 use lib.ListN.{length, getD}
 use Rattle.layout.specs.Numbers.{firstChunk, lawful}
-use Rattle.rules.specs.Fits.{Policies, AllFitting}
+use Rattle.rules.specs.Fits.{Policies}
+use Rattle.rules.specs.Picks.{AllFitting}
 use Rattle.rules.specs.Libraries.{libraryBy}
 use Rattle.rules.proofs.Starting.{start-sound, start-chunks}
 use Rattle.rules.proofs.Calls.{start-behaves}
@@ -45,7 +46,7 @@ module _ (policies : Policies) (fitting : AllFitting policies) where
       → Ended (libraryBy policies) event s (e .block) ⊎ WordsKept s event e
   event-keeps n s g (call c) allowed e l = go (call-noted n (s .words) (s .ledger) g policies fitting c)
     where
-      go : CallNoted n (s .words) (s .ledger) c ((libraryBy policies) c (s .words))
+      go : CallNoted n (s .words) (s .ledger) c (libraryBy policies c (s .words))
           → Ended (libraryBy policies) (call c) s (e .block) ⊎ WordsKept s (call c) e
       go (kept goes) = inr (λ f m q i h k. goes .keeps e f l m q i h k)
       go (renewed z blocks p agrees) = inl (z, inr (blocks, p))

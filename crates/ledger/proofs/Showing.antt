@@ -18,7 +18,8 @@ use Rattle.rules.specs.Pictures.{pictureLength}
 use Rattle.rules.specs.Calls.{freeOn, sizeOn, viewOn, reportOn, writeOn}
 use Rattle.rules.specs.Causes.{LawfulRequest, WriteRefused, no-length, unsound, short-text}
 use Rattle.rules.specs.Stands.{NoBlock}
-use Rattle.rules.specs.Fits.{Policies, AllFitting}
+use Rattle.rules.specs.Fits.{Policies}
+use Rattle.rules.specs.Picks.{AllFitting}
 use Rattle.rules.specs.Libraries.{Call, start, alloc, free, resize, relocate, realloc, size, view, report, write, read, libraryBy}
 use Rattle.layout.proofs.Round.{sound-lawful}
 use Rattle.rules.proofs.Gates.{sound-gate}
@@ -46,8 +47,8 @@ module _ (policies : Policies) (fitting : AllFitting policies) where
   -- a call that gives one of the first two reasons, and is no reading, has an unlawful length, or an arena that is not
   -- sound
   gate-refused : (a : List ℕ) (c : Call) → ((text : List ℕ) → c ≢ read text)
-      → ((libraryBy policies) c a .answer .code ≡ number Length → lawful (length a) ≡ false) ×
-      ((libraryBy policies) c a .answer .code ≡ number Damaged → sound a ≡ false)
+      → (libraryBy policies c a .answer .code ≡ number Length → lawful (length a) ≡ false) ×
+      (libraryBy policies c a .answer .code ≡ number Damaged → sound a ≡ false)
   gate-refused a start other = (
     λ e. start-behaves a .refused Length .0 e .1,
     λ e. absurd
@@ -68,7 +69,7 @@ module _ (policies : Policies) (fitting : AllFitting policies) where
   gate-refused a (read text) other = absurd (other text refl)
 
   -- a call that would move its block is a resize, and to a number of words that may be asked for
-  would-move : (a : List ℕ) (c : Call) → (libraryBy policies) c a .answer .code ≡ number WouldMove
+  would-move : (a : List ℕ) (c : Call) → libraryBy policies c a .answer .code ≡ number WouldMove
       → (b : ℕ) × (w : ℕ) × (c ≡ resize b w) × LawfulRequest (length a) w
   would-move a start e = absurd (omega (arith, ap number (start-behaves a .refused WouldMove .0 e .0)))
   would-move a (alloc fit w) e = absurd (alloc-by-behaves a (policies fit) (fitting fit) w .refused WouldMove .0 e .1)
@@ -83,7 +84,7 @@ module _ (policies : Policies) (fitting : AllFitting policies) where
   would-move a (read text) e = elim (read-behaves a text .refused WouldMove .0 e) [ ]
 
   -- a call that finds a text too short is a writing
-  short-of-text : (a : List ℕ) (c : Call) → (libraryBy policies) c a .answer .code ≡ number TextRoom → (text : List ℕ) × (c ≡ write text)
+  short-of-text : (a : List ℕ) (c : Call) → libraryBy policies c a .answer .code ≡ number TextRoom → (text : List ℕ) × (c ≡ write text)
   short-of-text a start e = absurd (omega (arith, ap number (start-behaves a .refused TextRoom .0 e .0)))
   short-of-text a (alloc fit w) e = absurd (alloc-by-behaves a (policies fit) (fitting fit) w .refused TextRoom .0 e)
   short-of-text a (free b) e = absurd (free-behaves a b .refused TextRoom .0 e)

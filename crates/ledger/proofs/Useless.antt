@@ -36,10 +36,9 @@ use Rattle.ledger.specs.Demands.{RoomForRealloc, ShrinksToNeed, NoMoreCr
 use Rattle.ledger.proofs.Gaps.{a-hole}
 use Rattle.ledger.proofs.Examples.{clash}
 
--- whichever fit the allocs are under
-module _ (fit : Fit) where
-  -- ---- what the room rule asks of a new arena: its first alloc is done
+-- ---- what the room rule asks of a new arena, whichever fit it is about: its first alloc is done
 
+module _ (fit : Fit) where
   -- arena `a` is started, and `w` words are asked for
   record Once (library : Library) (a : List ℕ) (w : ℕ) : Type 0 where
     started : Run library (length a) (record { words = library start a .words; ledger = [] })
@@ -74,22 +73,24 @@ module _ (fit : Fit) where
       → RoomShorter (need 2) 6 (told (library (alloc fit 2) (library start (replicate 6 0) .words) .answer)) [] → ⊥
   own-room library room known short = let o = in-six library room in omega (arith, short, known 6 _ (o .started) .alloc-grants fit 2 (o .done))
 
-  -- ---- one that refuses everything
+-- ---- one that refuses everything
 
-  -- no call is ever done, for whatever reasons and whatever it writes
-  abbrev pub RefusesEverything : Library → Type 0
-  RefusesEverything library = (c : Call) (a : List ℕ) → Done (library c a .answer) → ⊥
+-- no call is ever done, for whatever reasons and whatever it writes
+abbrev pub RefusesEverything : Library → Type 0
+RefusesEverything library = (c : Call) (a : List ℕ) → Done (library c a .answer) → ⊥
 
+module _ (fit : Fit) where
   -- it fails the room rule: a new arena of 6 words has room for 2
   pub refuses-everything : (library : Library) → RefusesEverything library → RoomForAlloc library (alloc fit) → ⊥
-  refuses-everything library refuses room = refuses (alloc fit 2) _ (in-six library room .done)
+  refuses-everything library refuses room = refuses (alloc fit 2) _ (in-six fit library room .done)
 
-  -- already its start fails
-  pub refuses-start : (library : Library) → RefusesEverything library → Starts library → ⊥
-  refuses-start library refuses starts = refuses start _ (starts (replicate 6 0) refl)
+-- already its start fails
+pub refuses-start : (library : Library) → RefusesEverything library → Starts library → ⊥
+refuses-start library refuses starts = refuses start _ (starts (replicate 6 0) refl)
 
-  -- ---- one that grants block 4 each time
+-- ---- one that grants block 4 each time
 
+module _ (fit : Fit) where
   -- an alloc that is done answers block 4, whatever it grants and writes, and whatever the other calls do
   abbrev pub GrantsBlockFour : Library → Type 0
   GrantsBlockFour library = (w : ℕ) (a : List ℕ) → Done (library (alloc fit w) a .answer) → told (library (alloc fit w) a .answer) .block ≡ 4
@@ -99,7 +100,7 @@ module _ (fit : Fit) where
   pub grants-block-four : (library : Library) → GrantsBlockFour library → RoomForAlloc library (alloc fit) → Known library → Apart library → ⊥
   unfolding enter
   grants-block-four library four room known apart =
-      let o = in-thirty-two library room in
+      let o = in-thirty-two fit library room in
       let first = library (alloc fit 2) (library start (replicate 32 0) .words) in
       let second = library (alloc fit 2) (first .words) in
       let is : told (first .answer) .block ≡ 4 = four 2 _ (o .done) in
@@ -115,17 +116,18 @@ module _ (fit : Fit) where
             (rw (le-leb (told (second .answer) .block) (told (first .answer) .block) (omega arith))),
       )
 
-  -- ---- one that writes nothing
+-- ---- one that writes nothing
 
-  -- every call leaves the words as they were, whatever it answers
-  abbrev pub WritesNothing : Library → Type 0
-  WritesNothing library = (c : Call) (a : List ℕ) → library c a .words ≡ a
+-- every call leaves the words as they were, whatever it answers
+abbrev pub WritesNothing : Library → Type 0
+WritesNothing library = (c : Call) (a : List ℕ) → library c a .words ≡ a
 
+module _ (fit : Fit) where
   -- if it keeps the room rule and its blocks lie inside, they overlap: a second alloc answers what the first did
   pub writes-nothing : (library : Library) → WritesNothing library → RoomForAlloc library (alloc fit) → Inside library → Apart library → ⊥
   unfolding enter
   writes-nothing library nothing room inside apart =
-      let o = in-six library room in
+      let o = in-six fit library room in
       let a = library start (replicate 6 0) .words in
       let e = told (library (alloc fit 2) a .answer) in
       let z : (2 ≤ begins e) × (ends e ≤ 6) = inside 6 _ (o .once) e (inl refl) in
@@ -136,45 +138,48 @@ module _ (fit : Fit) where
             (rw (nothing (alloc fit 2) a, o .done, le-leb (e .block) (e .block) (omega arith))),
       )
 
-  -- it answers as ours does
-  abbrev pub answersAlone : Library
-  answersAlone c a = record { answer = ours c a .answer; words = a }
+-- it answers as ours does
+abbrev pub answersAlone : Library
+answersAlone c a = record { answer = ours c a .answer; words = a }
 
-  -- it does not know its arena: right after the start, the report is refused for damage
-  pub answers-alone : Known answersAlone → ⊥
-  unfolding reportOn arenaGate sound walked walkFrom walk meet
-  answers-alone known = known 6 _ (begun (replicate 6 0) refl refl) .never-damaged report (λ text is. clash cc) refl
+-- it does not know its arena: right after the start, the report is refused for damage
+pub answers-alone : Known answersAlone → ⊥
+unfolding reportOn arenaGate sound walked walkFrom walk meet
+answers-alone known = known 6 _ (begun (replicate 6 0) refl refl) .never-damaged report (λ text is. clash cc) refl
 
-  -- ---- one that keeps a made-up total of free words
+-- ---- one that keeps a made-up total of free words
 
-  -- the total that it reports may depend on the arena's length, and on nothing else
-  abbrev pub MadeUpTotal : (ℕ → ℕ) → Library → Type 0
-  MadeUpTotal total library = (a : List ℕ) → freeWordsIn (library report a .answer) ≡ total (length a)
+-- the total that it reports may depend on the arena's length, and on nothing else
+abbrev pub MadeUpTotal : (ℕ → ℕ) → Library → Type 0
+MadeUpTotal total library = (a : List ℕ) → freeWordsIn (library report a .answer) ≡ total (length a)
 
+module _ (fit : Fit) where
   -- if it keeps the room rule and its arena's length, its sum is wrong, before an alloc or after it
   pub made-up-total : (total : ℕ → ℕ) (library : Library) → MadeUpTotal total library → Lengths library → RoomForAlloc library (alloc fit)
       → Sums library → ⊥
   made-up-total total library made lengths room sums =
-      let o = in-six library room in
+      let o = in-six fit library room in
       let before : total 6 ≡ 4 = rw (← lengths 6 _ (o .started), ← made) (omega (arith, sums 6 _ (o .started))) in
       let after : total 6 + (told (library (alloc fit 2) (library start (replicate 6 0) .words) .answer) .granted + 2) ≡ 4 =
       rw (← lengths 6 _ (o .once), ← made) (omega (arith, sums 6 _ (o .once))) in
       omega arith
 
-  -- ---- one that reports no live blocks
+-- ---- one that reports no live blocks
 
-  -- the report tells 0 live blocks, whatever else it tells
-  abbrev pub ReportsNone : Library → Type 0
-  ReportsNone library = (a : List ℕ) → liveBlocksIn (library report a .answer) ≡ 0
+-- the report tells 0 live blocks, whatever else it tells
+abbrev pub ReportsNone : Library → Type 0
+ReportsNone library = (a : List ℕ) → liveBlocksIn (library report a .answer) ≡ 0
 
+module _ (fit : Fit) where
   -- if it keeps the room rule, it does not know its arena: a block is held
   pub reports-none : (library : Library) → ReportsNone library → RoomForAlloc library (alloc fit) → Known library → ⊥
   reports-none library none room known =
-      let o = in-six library room in
+      let o = in-six fit library room in
       omega (arith, none (library (alloc fit 2) (library start (replicate 6 0) .words) .words), known 6 _ (o .once) .live-blocks)
 
-  -- ---- one that grants block 2, whose header is the control words, or a block that begins where the arena ends
+-- ---- one that grants block 2, whose header is the control words, or a block that begins where the arena ends
 
+module _ (fit : Fit) where
   -- an alloc that is done answers block 2, of which the control words are the header
   abbrev pub GrantsControlWords : Library → Type 0
   GrantsControlWords library = (w : ℕ) (a : List ℕ) → Done (library (alloc fit w) a .answer) → told (library (alloc fit w) a .answer) .block ≡ 2
@@ -182,7 +187,7 @@ module _ (fit : Fit) where
   -- if it keeps the room rule, its block is not inside
   pub grants-control-words : (library : Library) → GrantsControlWords library → RoomForAlloc library (alloc fit) → Inside library → ⊥
   grants-control-words library two room inside =
-      let o = in-six library room in
+      let o = in-six fit library room in
       omega (arith, two 2 _ (o .done), inside 6 _ (o .once) _ (inl refl) .0)
 
   -- an alloc that is done answers a block that begins where the arena ends
@@ -193,7 +198,7 @@ module _ (fit : Fit) where
   pub grants-beyond : (library : Library) → GrantsBeyond library → Lengths library → RoomForAlloc library (alloc fit) → Known library
       → Inside library → ⊥
   grants-beyond library beyond lengths room known inside =
-      let o = in-six library room in
+      let o = in-six fit library room in
       omega (
         arith,
         beyond 2 _ (o .done),
@@ -203,8 +208,9 @@ module _ (fit : Fit) where
             (inl refl) .1,
       )
 
-  -- ---- one that grants 2 words whatever is asked
+-- ---- one that grants 2 words whatever is asked
 
+module _ (fit : Fit) where
   -- an alloc that is done answers 2 granted words, whatever it writes, and whatever the other calls do
   abbrev pub GrantsTwoWords : Library → Type 0
   GrantsTwoWords library = (w : ℕ) (a : List ℕ) → Done (library (alloc fit w) a .answer) → told (library (alloc fit w) a .answer) .granted ≡ 2
@@ -212,11 +218,12 @@ module _ (fit : Fit) where
   -- if it keeps the room rule, it does not grant enough: a new arena of 8 words has room for 4
   pub grants-two-words : (library : Library) → GrantsTwoWords library → RoomForAlloc library (alloc fit) → Known library → ⊥
   grants-two-words library two room known =
-      let o = has-once library room (replicate 8 0) 4 refl (omega arith) in
+      let o = has-once fit library room (replicate 8 0) 4 refl (omega arith) in
       omega (arith, two 4 _ (o .done), known 8 _ (o .started) .alloc-grants fit 4 (o .done))
 
-  -- ---- one that grants the whole arena
+-- ---- one that grants the whole arena
 
+module _ (fit : Fit) where
   -- an alloc that is done answers all words but the control words and a header, whatever is asked
   abbrev pub GrantsEverything : Library → Type 0
   GrantsEverything library = (w : ℕ) (a : List ℕ) → Done (library (alloc fit w) a .answer)
@@ -225,11 +232,12 @@ module _ (fit : Fit) where
   -- if it keeps the room rule and its arena's length, it grants too much: of 32 words, a request for 2 has 28
   pub grants-everything : (library : Library) → GrantsEverything library → Lengths library → RoomForAlloc library (alloc fit) → Known library → ⊥
   grants-everything library all lengths room known =
-      let o = in-thirty-two library room in
+      let o = in-thirty-two fit library room in
       omega (arith, all 2 _ (o .done), lengths 32 _ (o .started), known 32 _ (o .started) .alloc-grants fit 2 (o .done))
 
-  -- ---- one that grants just the need
+-- ---- one that grants just the need
 
+module _ (fit : Fit) where
   -- an alloc that is done grants just its need, and leaves all that is over, whatever else it does
   abbrev pub GrantsJustTheNeed : Library → Type 0
   GrantsJustTheNeed library = (w : ℕ) (a : List ℕ) → Done (library (alloc fit w) a .answer)
@@ -241,8 +249,8 @@ module _ (fit : Fit) where
   unfolding enter
   grants-just-the-need library exact room inside none = go (ltb 0 below) refl
     where
-      o : Once library (replicate 12 0) 2
-      o = has-once library room (replicate 12 0) 2 refl (omega arith)
+      o : Once fit library (replicate 12 0) 2
+      o = has-once fit library room (replicate 12 0) 2 refl (omega arith)
 
       e : Entry
       e = told (library (alloc fit 2) (library start (replicate 12 0) .words) .answer)
@@ -268,8 +276,9 @@ module _ (fit : Fit) where
             a-crumb above (omega (arith, ltb-false 0 below is, exact 2 _ (o .done), within)) (omega (arith, exact 2 _ (o .done), within)),
           )
 
-  -- ---- one that grants more, though there is no need to
+-- ---- one that grants more, though there is no need to
 
+module _ (fit : Fit) where
   -- an alloc that is done grants six words beyond its need, whatever else it does
   abbrev pub GrantsSixBeyond : Library → Type 0
   GrantsSixBeyond library = (w : ℕ) (a : List ℕ) → Done (library (alloc fit w) a .answer)
@@ -283,8 +292,8 @@ module _ (fit : Fit) where
       ⊎-elim (λ just-need. omega (arith, just-need, six)) (λ one-less. go (ltb 0 below) refl (rw (o .done) at one-less))
       (whole 32 _ (o .started) 2 (o .done))
     where
-      o : Once library (replicate 32 0) 2
-      o = in-thirty-two library room
+      o : Once fit library (replicate 32 0) 2
+      o = in-thirty-two fit library room
 
       e : Entry
       e = told (library (alloc fit 2) (library start (replicate 32 0) .words) .answer)

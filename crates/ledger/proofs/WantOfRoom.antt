@@ -17,7 +17,8 @@ use Rattle.layout.specs.declared.Reason.the-variants.{NoRoom, WouldMove}
 use Rattle.layout.proofs.Holds.{total-append}
 use Rattle.rules.specs.Rooms.{roomWords}
 use Rattle.rules.specs.Answers.{Answer, Outcome, success}
-use Rattle.rules.specs.Fits.{Policy, Fitting}
+use Rattle.rules.specs.Fits.{Policy}
+use Rattle.rules.specs.Picks.{Fitting}
 use Rattle.rules.specs.Calls.{allocBy, resizeOn, relocateOn, reallocOn}
 use Rattle.rules.specs.Stands.{NoGap}
 use Rattle.rules.specs.Causes.{LawfulRequest, Grounds, Short, ShortBlock, RegrantRefused}

@@ -8,7 +8,8 @@ use Rattle.layout.specs.Numbers.{firstChunk, headerWords}
 use Rattle.layout.specs.Chunks.{Chunk, free, live, total}
 use Rattle.layout.specs.Walk.{sound, chunksOf}
 use Rattle.rules.specs.Spots.{Spot, nowhere, at, lowest, held}
-use Rattle.rules.specs.Fits.{fitsFrom, orElseAt, firstFit, nextFit, Picks, no-gap, a-gap}
+use Rattle.rules.specs.Fits.{fitsFrom, orElseAt, firstFit, nextFit}
+use Rattle.rules.specs.Picks.{Picks, no-gap, a-gap}
 use Rattle.rules.proofs.Searches.{BlockSearch, no-block, a-block, block-search}
 use Rattle.passes.specs.Places.{placeOf, Placed}
 use Rattle.passes.specs.declared.places.Place.the-variants.{At, Nowhere}

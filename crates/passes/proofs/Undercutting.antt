@@ -9,15 +9,15 @@ use lib.Dec.{leb, ltb}
 use lib.ListN.{length}
 use borrow.Author.Tests.{leb-true, leb-false, lt-ltb, le-ltb, ltb-true, ltb-false}
 use Rattle.layout.specs.Numbers.{firstChunk, listWord}
-use Rattle.layout.specs.Chunks.{Chunk, free, live, size, total}
+use Rattle.layout.specs.Chunks.{Chunk, free, live, size}
 use Rattle.layout.specs.Walk.{sound, chunksOf}
 use Rattle.layout.specs.Links.{freeList, Chain}
-use Rattle.layout.proofs.Holds.{total-append}
 use Rattle.layout.proofs.Chain.{chain}
-use Rattle.layout.proofs.Round.{sound-chunks}
+use Rattle.layout.proofs.Round.{sound-chunks, sound-around}
 use Rattle.rules.specs.Spots.{Spot, nowhere, at, behind}
-use Rattle.rules.specs.Fits.{tighter, bestFit, Picks, no-gap, a-gap}
-use Rattle.rules.proofs.Fits.{best-fitting}
+use Rattle.rules.specs.Fits.{tighter, bestFit}
+use Rattle.rules.specs.Picks.{Picks, no-gap, a-gap}
+use Rattle.rules.proofs.BestFit.{best-fitting}
 use Rattle.passes.specs.Places.{placeOf}
 use Rattle.passes.specs.declared.places.Place.{Place}
 use Rattle.passes.specs.declared.places.Place.the-variants.{At, Nowhere}
@@ -132,9 +132,7 @@ undercut-begins a need e =
     }
   where
     short : (pre : List Chunk) (s : ℕ) (post : List Chunk) → chunksOf a ≡ pre ++ free s ∷ post → s < length a
-    short pre s post same =
-        let fills : firstChunk + (total pre + (s + total post)) ≡ length a = simp total-append at (rw same at (sound-chunks a e .law .fills)) in
-        omega arith
+    short pre s post same = omega (arith, sound-around a pre (free s) post e same)
 
     go : {spot : Spot} → Picks (chunksOf a) need spot → orBest (length a) Nowhere listWord firstChunk spot ≡ placeOf spot
     go (no-gap h) = refl

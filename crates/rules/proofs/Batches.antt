@@ -14,7 +14,8 @@ use Rattle.layout.specs.declared.Reason.the-variants.{Frame}
 use Rattle.layout.proofs.Reasons.{number-positive, number-injective}
 use Rattle.rules.specs.Answers.{Outcome, blockField, grantedField, noCall}
 use Rattle.rules.specs.Behaves.{Behaves}
-use Rattle.rules.specs.Fits.{first-fit, Policies, policyOf, AllFitting}
+use Rattle.rules.specs.Fits.{first-fit, Policies, policyOf}
+use Rattle.rules.specs.Picks.{AllFitting}
 use Rattle.rules.specs.Libraries.{Call, start, alloc, free, resize, relocate, realloc, size, view, report, write, read, Library, libraryBy}
 use Rattle.rules.specs.Libraries.{ours}
 use Rattle.rules.specs.Causes.{CallRefused, callFields, WantedRefused, wantedFields}

@@ -20,7 +20,8 @@ use Rattle.rules.specs.Spots.{Spot, at, held}
 use Rattle.rules.specs.Rules.{taken, cut, joined, released, grantedAt, grantFrom, allotted, freeWords, widest, liveBlocks, freeChunks}
 use Rattle.rules.specs.Calls.{onBlock, granted, startOn, allocBy, allocOn, freeOn, sizeOn, reportOn}
 use Rattle.rules.specs.Stands.{GapAt}
-use Rattle.rules.specs.Fits.{Policy, firstFit, Picks, no-gap, a-gap, Fitting}
+use Rattle.rules.specs.Fits.{Policy, firstFit}
+use Rattle.rules.specs.Picks.{Picks, no-gap, a-gap, Fitting}
 use Rattle.rules.proofs.Fits.{first-fitting}
 use Rattle.rules.proofs.Searches.{BlockAt, BlockSearch, no-block, a-block, block-search}
 use Rattle.rules.proofs.Gates.{Checked, unlawful, damaged, whole, checked, Asked, for-none, for-more, for-some, asked}

@@ -10,8 +10,10 @@ use Rattle.rules.specs.Calls.{writeOn, readOn}
 use Rattle.rules.specs.Causes.{StartRefused, AllocRefused, BlockRefused, ResizeRefused, RelocateRefused, ReallocRefused, ReportRefused}
 use Rattle.rules.specs.Causes.{WriteRefused, ReadRefused}
 use Rattle.rules.specs.Behaves.{Behaves}
-use Rattle.rules.specs.Fits.{Policy, firstFit, bestFit, nextFit, Fitting}
-use Rattle.rules.proofs.Fits.{first-fitting, best-fitting, next-fitting}
+use Rattle.rules.specs.Fits.{Policy, firstFit, bestFit, nextFit}
+use Rattle.rules.specs.Picks.{Fitting}
+use Rattle.rules.proofs.BestFit.{best-fitting}
+use Rattle.rules.proofs.Fits.{first-fitting, next-fitting}
 use Rattle.rules.proofs.CallCases.{Case, refuses, does, refused-unchanged, refused-zeros, start-case, Allots, alloc-by-case, free-case}
 use Rattle.rules.proofs.CallCases.{size-case}
 use Rattle.rules.proofs.CallCases.{report-case}
@@ -47,9 +49,9 @@ module _ (a : List ℕ) where
   alloc-by-behaves policy fitting n = behaves (alloc-by-case policy fitting a n) (alloc-by-gives a policy fitting n) (allots-kept a n)
 
   -- so under two of them it is refused in the same cases and for the same reasons
-  pub same-code : (policy policy′ : Policy) → Fitting policy → Fitting policy′ → (n : ℕ)
+  pub codes-agree : (policy policy′ : Policy) → Fitting policy → Fitting policy′ → (n : ℕ)
       → allocBy policy a n .answer .code ≡ allocBy policy′ a n .answer .code
-  same-code policy policy′ fitting fitting′ n = go (alloc-by-case policy fitting a n) refl
+  codes-agree policy policy′ fitting fitting′ n = go (alloc-by-case policy fitting a n) refl
     where
       go : {outcome : Outcome} → Case 2 a (AllocRefused a n) (Allots a n) outcome → allocBy policy a n ≡ outcome
           → outcome .answer .code ≡ allocBy policy′ a n .answer .code

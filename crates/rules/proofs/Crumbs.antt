@@ -22,7 +22,8 @@ use Rattle.rules.specs.Rooms.{roomWords, roomAfter}
 use Rattle.rules.specs.Crumbs.{crumb, crumbs, freeSizes}
 use Rattle.rules.specs.Calls.{allocBy, freeOn, resizeOn, relocateOn, reallocOn}
 use Rattle.rules.specs.Causes.{ReallocRefused}
-use Rattle.rules.specs.Fits.{Policy, Fitting}
+use Rattle.rules.specs.Fits.{Policy}
+use Rattle.rules.specs.Picks.{Fitting}
 use Rattle.rules.proofs.Remainder.{Remainder, split, whole, remainder}
 use Rattle.rules.proofs.Rooms.{roomTail, room-split}
 use Rattle.rules.proofs.Staying.{KeepsOfRoom, splits-rest, hands-over, its-room}

@@ -2,16 +2,15 @@
 use mathlib.Core.Path.{_≡_, refl, ap}
 use mathlib.Core.Logic.{_≢_, _↔_}
 use mathlib.Core.Bool.{true}
-use mathlib.Core.List.{List, [], _∷_, _++_}
-use Prim.Native.Nat.{ℕ, _+_, _-_}
+use mathlib.Core.List.{List, []}
+use Prim.Native.Nat.{ℕ, _-_}
 use native.Mathlib.Omega.{arith}
 use lib.ListN.{length, take, drop, length-take, length-drop}
-use Rattle.layout.specs.Numbers.{firstChunk, headerWords}
-use Rattle.layout.specs.Chunks.{Chunk, live, total}
+use Rattle.layout.specs.Numbers.{headerWords}
+use Rattle.layout.specs.Chunks.{Chunk, live}
 use Rattle.layout.specs.Walk.{sound}
-use Rattle.layout.proofs.Holds.{Lawful, total-append}
 use Rattle.layout.proofs.Reasons.{number-positive}
-use Rattle.layout.proofs.Round.{sound-chunks}
+use Rattle.layout.proofs.Round.{sound-around}
 use Rattle.rules.specs.Answers.{Outcome, grantedField}
 use Rattle.rules.specs.Calls.{sizeOn, viewOn}
 use Rattle.rules.specs.Causes.{BlockRefused}
@@ -23,9 +22,7 @@ block-words : (a : List ℕ) (b : ℕ) (pre : List Chunk) (s : ℕ) (post : List
     → take (s - headerWords) (drop b a) ≢ []
 block-words a b pre s post e is none =
     let z = block-sizes a b pre s post e is in
-    let l : Lawful (length a) (pre ++ live s ∷ post) = rw (is .same) at (sound-chunks a e .law) in
-    let n : firstChunk + (total pre + (s + total post)) ≡ length a = simp total-append at (l .fills) in
-    omega (arith, simp (length-take, length-drop) at (ap length none), z .0, z .1, is .number-is)
+    omega (arith, sound-around a pre (live s) post e (is .same), simp (length-take, length-drop) at (ap length none), z .0, z .1, is .number-is)
 
 -- "and the empty part where size of b would be refused"
 pub view-empty : (a : List ℕ) (b : ℕ) → (viewOn a b ≡ []) ↔ (sizeOn a b .answer .code ≢ 0)

@@ -20,7 +20,8 @@ use Rattle.rules.specs.Calls.{onBlock, granted, startOn, allocBy, freeOn
 use Rattle.layout.proofs.Round.{sound-lawful}
 use Rattle.rules.proofs.Gates.{unlawful-gate, damaged-gate, sound-gate, zero-gate, large-gate, request-gate}
 use Rattle.rules.proofs.Searches.{no-block-held, block-held}
-use Rattle.rules.specs.Fits.{Policy, firstFit, Fitting}
+use Rattle.rules.specs.Fits.{Policy, firstFit}
+use Rattle.rules.specs.Picks.{Fitting}
 use Rattle.rules.proofs.Fits.{first-fitting, picks-nowhere}
 use Rattle.rules.specs.Causes.{Grounds, Short, StartRefused, ReportRefused, BlockRefused, AllocRefused, RegrantRefused, ResizeRefused}
 use Rattle.rules.specs.Causes.{RelocateRefused, ReallocRefused}

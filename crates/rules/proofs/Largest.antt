@@ -16,7 +16,8 @@ use Rattle.layout.proofs.Round.{sound-lawful, sound-chunks}
 use Rattle.layout.proofs.Reasons.{number-positive}
 use Rattle.rules.specs.Answers.{Outcome}
 use Rattle.rules.specs.Rules.{widest}
-use Rattle.rules.specs.Fits.{Policy, Fitting}
+use Rattle.rules.specs.Fits.{Policy}
+use Rattle.rules.specs.Picks.{Fitting}
 use Rattle.rules.specs.Calls.{allocBy, reportOn}
 use Rattle.rules.proofs.ReportCounts.{counts-within}
 use Rattle.rules.proofs.Searches.{FreeShorter, no-gap-shorter, free-shorter-tail}

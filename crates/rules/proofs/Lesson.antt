@@ -1,24 +1,26 @@
 -- What each of the three fits picks, in words of the lesson, and that those words leave no choice.
 use mathlib.Core.Path.{_≡_, refl, sym, ap, _∙_}
 use mathlib.Core.Logic.{_↔_}
-use mathlib.Core.Bool.{Bool, true, false, true≢false, cond}
+use mathlib.Core.Bool.{Bool, true, false, true≢false}
 use mathlib.Core.List.{List, [], _∷_, _++_}
 use Prim.Native.Nat.{ℕ, _+_, _≤_, _<_}
 use native.Mathlib.Omega.{arith}
 use lib.Dec.{leb}
 use borrow.Author.Tests.{le-leb, leb-true, leb-false}
 use Rattle.layout.specs.Numbers.{firstChunk}
-use Rattle.layout.specs.Chunks.{Chunk, free, live, size, total}
+use Rattle.layout.specs.Chunks.{Chunk, free, size, total}
 use Rattle.layout.specs.Walk.{sound, chunksOf}
 use Rattle.layout.proofs.Bools.{both}
 use Rattle.layout.proofs.Holds.{Sizes}
 use Rattle.layout.proofs.Round.{sound-chunks}
 use Rattle.rules.specs.Spots.{Spot, nowhere, at, behind, lowest}
-use Rattle.rules.specs.Stands.{GapIn, NoGapIn}
-use Rattle.rules.specs.Fits.{Policy, fits, fitsFrom, orElseAt, tighter, firstFit, bestFit, nextFit, Picks, no-gap, a-gap, Fitting, GapFrom}
-use Rattle.rules.specs.Fits.{IsFirst, IsBest, IsNext}
+use Rattle.rules.specs.Stands.{GapIn}
+use Rattle.rules.specs.Fits.{Policy, fits, fitsFrom, orElseAt, firstFit, bestFit, nextFit}
+use Rattle.rules.specs.Picks.{Picks, no-gap, a-gap, Fitting, GapFrom}
+use Rattle.rules.specs.Picks.{IsFirst, IsBest, IsNext}
 use Rattle.rules.proofs.Lowest.{lowest-hit, lowest-least, none-passes}
-use Rattle.rules.proofs.Fits.{first-fitting, best-fitting, next-fitting}
+use Rattle.rules.proofs.BestFit.{best-fitting, best-is}
+use Rattle.rules.proofs.Fits.{first-fitting, next-fitting}
 
 -- ---- what they pick
 
@@ -66,89 +68,6 @@ module _ (need : ℕ) (ks pre : List Chunk) (s : ℕ) (post : List Chunk) where
                   absurd (true≢false
                   (sym (from-rover rover d t (pre′, post′, gap, starts) (leb-true rover d h))
                   ∙ (rw (← starts) at (none-passes (fitsFrom rover need) ks pre′ (free t) post′ q (gap .0)))))
-
--- ---- best fit
-
--- no free chunk that fits is smaller than `s` words, and none of `s` words has fewer than `c` words before it
-abbrev Least : ℕ → List Chunk → ℕ → ℕ → Type 0
-Least need ks c s = (pre : List Chunk) (t : ℕ) (post : List Chunk) → GapIn ks need pre t post → (s ≤ t) × (t ≡ s → c ≤ total pre)
-
--- that is so of a chunk and others behind it where it is so of the chunk, if it fits, and of the others
-least-of : (need c s : ℕ) (k : Chunk) (ks : List Chunk) → ((t : ℕ) → k ≡ free t → need ≤ t → (s ≤ t) × (t ≡ s → c ≤ 0))
-    → ((pre : List Chunk) (t : ℕ) (post : List Chunk) → GapIn ks need pre t post → (s ≤ t) × (t ≡ s → c ≤ size k + total pre))
-    → Least need (k ∷ ks) c s
-least-of need c s k ks here there [] t post gap = let is : k ≡ free t = cc in here t is (gap .1)
-least-of need c s k ks here there (m ∷ pre) t post gap =
-    let is : k ≡ m = cc in
-    let sized : size k ≡ size m = ap size is in
-    let behind-it : ks ≡ pre ++ free t ∷ post = cc in
-    let rest = there pre t post (behind-it, gap .1) in
-    (rest .0, λ same. omega (arith, rest .1 same))
-
--- what best fit picks, or that none fits
-data Best (need : ℕ) (ks : List Chunk) : Spot → Type 0 where
-  nothing : NoGapIn ks need → Best need ks nowhere
-  least : (pre : List Chunk) (k : Chunk) (post : List Chunk) → Least need ks (total pre) (size k) → Best need ks (at pre k post)
-
--- a chunk that does not fit comes before them
-best-behind : (need : ℕ) (k : Chunk) (ks : List Chunk) → ((s : ℕ) → k ≡ free s → s < need) → {spot : Spot} → Best need ks spot
-    → Best need (k ∷ ks) (behind k spot)
-best-behind need k ks short (nothing h) = nothing go
-  where
-    go : NoGapIn (k ∷ ks) need
-    go [] s post gap = let is : k ≡ free s = cc in omega (arith, short s is, gap .1)
-    go (m ∷ pre) s post gap = h pre s post (cc, gap .1)
-best-behind need k ks short (least pre l post b) =
-    least (k ∷ pre) l post
-    (least-of need _ _ k ks (λ t is enough. absurd (omega (arith, short t is)))
-    (λ pre′ t post′ gap. let r = b pre′ t post′ gap in (r .0, λ same. omega (arith, r .1 same))))
-
-best-told : (need : ℕ) (ks : List Chunk) → Best need ks (bestFit need ks)
-unfolding bestFit
-best-told need [] = nothing go
-  where
-    go : NoGapIn [] need
-    go [] s post gap = absurd (let z : _≡_ {A = ℕ} 0 1 = cc in omega arith)
-    go (m ∷ pre) s post gap = absurd (let z : _≡_ {A = ℕ} 0 1 = cc in omega arith)
-best-told need (live s ∷ ks) =
-    best-behind need (live s) ks (λ t e. absurd (let z : _≡_ {A = ℕ} 0 1 = cc in omega arith)) (best-told need ks)
-best-told need (free s ∷ ks) = go (leb need s) refl (best-told need ks)
-  where
-    -- it is this chunk, as small as any other that fits
-    here : ((pre : List Chunk) (t : ℕ) (post : List Chunk) → GapIn ks need pre t post → s ≤ t) → Best need (free s ∷ ks) (at [] (free s) ks)
-    here small =
-        least [] (free s) ks
-        (least-of need 0 s (free s) ks (λ t is enough. let same : s ≡ t = cc in (omega arith, λ e. omega arith))
-        (λ pre t post gap. (small pre t post gap, λ e. omega arith)))
-
-    go : (enough : Bool) → leb need s ≡ enough → {spot : Spot} → Best need ks spot
-        → Best need (free s ∷ ks) (tighter (cond enough (at [] (free s) ks) nowhere) (behind (free s) spot))
-    go false e b = best-behind need (free s) ks (λ t q. let is : s ≡ t = cc in omega (arith, leb-false need s e)) b
-    go true e (nothing h) = here (λ pre t post gap. absurd (h pre t post gap))
-    go true e (least pre k post b) = pick (leb s (size k)) refl
-      where
-        pick : (lower : Bool) → leb s (size k) ≡ lower → Best need (free s ∷ ks) (cond lower (at [] (free s) ks) (at (free s ∷ pre) k post))
-        pick true h = here (λ pre′ t post′ gap. omega (arith, leb-true s (size k) h, b pre′ t post′ gap .0))
-        pick false h =
-            let smaller = leb-false s (size k) h in
-            least (free s ∷ pre) k post
-            (least-of need _ _ (free s) ks (λ t is enough. let same : s ≡ t = cc in (omega arith, λ q. absurd (omega arith)))
-            (λ pre′ t post′ gap. let r = b pre′ t post′ gap in (r .0, λ q. omega (arith, r .1 q))))
-
-pub best-is : (need : ℕ) (ks pre : List Chunk) (s : ℕ) (post : List Chunk) → bestFit need ks ≡ at pre (free s) post
-    → IsBest ks need (firstChunk + total pre) s
-best-is need ks pre s post e = go (best-told need ks) e
-  where
-    go : {spot : Spot} → Best need ks spot → spot ≡ at pre (free s) post → IsBest ks need (firstChunk + total pre) s
-    go (nothing h) q = absurd (let z : _≡_ {A = ℕ} 0 1 = cc in omega arith)
-    go (least pre′ k post′ b) q =
-        let before : pre′ ≡ pre = cc in
-        let is : k ≡ free s = cc in
-        let b′ : Least need ks (total pre) s = rw (before, is) at b in
-        record {
-          none-smaller = λ d t (before, after, gap, starts). b′ before t after gap .0;
-          none-lower = λ d (before, after, gap, starts). omega (arith, starts, b′ before s after gap .1 refl);
-        }
 
 -- ---- these words leave no choice
 

@@ -2,6 +2,7 @@
 pub mod Outcomes
 pub mod Gates
 pub mod Lowest
+pub mod BestFit
 pub mod Fits
 pub mod Lesson
 pub mod Searches
@@ -22,6 +23,7 @@ pub mod Frames
 pub mod Saying
 pub mod PictureCalls
 pub mod Calls
+pub mod AllocFound
 pub mod Rovers
 pub mod ThreeBlocks
 pub mod ReportCounts

@@ -17,7 +17,8 @@ use Rattle.layout.specs.declared.Reason.the-variants.{Length, Damaged, NotABloc
 use Rattle.layout.proofs.Holds.{Sizes}
 use Rattle.rules.specs.Answers.{Outcome, refused, settle, pass}
 use Rattle.rules.specs.Spots.{Spot, at, held}
-use Rattle.rules.specs.Fits.{firstFit, Picks, no-gap, a-gap}
+use Rattle.rules.specs.Fits.{firstFit}
+use Rattle.rules.specs.Picks.{Picks, no-gap, a-gap}
 use Rattle.rules.specs.Rules.{Way, shut, orElse, taken, cut, trim, released, copied, grantFrom, stay, shrink, grow, move, Regrant, regranted}
 use Rattle.rules.specs.Rules.{resized, relocated}
 use Rattle.rules.specs.Calls.{onBlock, granted, regrantBy, resizeOn, relocateOn, reallocOn}

@@ -14,7 +14,8 @@ use Rattle.layout.specs.declared.Reason.{Reason}
 use Rattle.layout.specs.declared.Reason.the-variants.{NoRoom, WouldMove}
 use Rattle.rules.specs.Answers.{Outcome, settle}
 use Rattle.rules.specs.Spots.{Spot, at}
-use Rattle.rules.specs.Fits.{firstFit, Picks, no-gap, a-gap}
+use Rattle.rules.specs.Fits.{firstFit}
+use Rattle.rules.specs.Picks.{Picks, no-gap, a-gap}
 use Rattle.rules.specs.Rules.{Way, shut, grants, orElse, grantFrom, move, grantedIn, Regrant, regranted, resized, relocated}
 use Rattle.rules.specs.Calls.{granted, relocateOn, resizeElseRelocate, reallocOn}
 use Rattle.rules.proofs.Fits.{first-fitting}

@@ -12,7 +12,8 @@ use Rattle.layout.specs.Walk.{chunksOf}
 use Rattle.layout.proofs.Round.{written-sound}
 use Rattle.rules.specs.Answers.{blockField, grantedField}
 use Rattle.rules.specs.Rules.{freeChunks}
-use Rattle.rules.specs.Fits.{Policy, Fitting}
+use Rattle.rules.specs.Fits.{Policy}
+use Rattle.rules.specs.Picks.{Fitting}
 use Rattle.rules.specs.Calls.{allocBy, resizeOn, reallocOn}
 use Rattle.rules.specs.Rooms.{roomWords}
 use Rattle.rules.proofs.Remainder.{Remainder, split, whole, remainder}

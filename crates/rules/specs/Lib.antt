@@ -1,12 +1,13 @@
 pub mod Answers
 pub mod Spots
-pub mod Stands
 pub mod Fits
 pub mod Rules
 pub mod Pictures
 pub mod Calls
 pub mod Libraries
 pub mod Batches
+pub mod Stands
+pub mod Picks
 pub mod Causes
 pub mod Behaves
 pub mod Rooms

@@ -4,12 +4,12 @@ use mathlib.Core.Path.{_≡_, refl, sym, ap, _∙_}
 use mathlib.Core.Logic.{_≢_}
 use mathlib.Core.Bool.{true, cond}
 use mathlib.Core.List.{List}
-use Prim.Native.Nat.{ℕ, _+_}
+use Prim.Native.Nat.{ℕ}
 use native.Mathlib.Omega.{arith}
 use lib.Dec.{eqb}
 use lib.ListN.{length}
-use Rattle.layout.specs.Numbers.{firstChunk, need}
-use Rattle.layout.specs.Chunks.{total}
+use Rattle.layout.specs.Numbers.{need}
+use Rattle.layout.specs.Chunks.{free}
 use Rattle.layout.specs.Walk.{sound, chunksOf}
 use Rattle.layout.specs.Reasons.{arenaGate, requestGate}
 use Rattle.layout.specs.declared.Gate.{Gate}
@@ -17,12 +17,12 @@ use Rattle.layout.specs.declared.Gate.the-variants.{Open, Shut}
 use Rattle.layout.specs.declared.Reason.{Reason}
 use Rattle.layout.specs.declared.Reason.the-variants.{NoRoom}
 use Rattle.layout.proofs.Reasons.{number-positive}
-use Rattle.layout.proofs.Round.{sound-lawful, sound-chunks}
-use Rattle.layout.proofs.Holds.{total-append}
+use Rattle.layout.proofs.Round.{sound-lawful, sound-chunks, sound-around}
 use Rattle.rules.specs.Answers.{Answer, Gives, refusal, settle}
 use Rattle.rules.specs.Spots.{Spot, nowhere, at, startOf}
 use Rattle.rules.specs.Rooms.{Needed}
-use Rattle.rules.specs.Fits.{Policy, nextFit, Picks, no-gap, a-gap, Fitting}
+use Rattle.rules.specs.Fits.{Policy, nextFit}
+use Rattle.rules.specs.Picks.{Picks, no-gap, a-gap, Fitting}
 use Rattle.rules.specs.Calls.{granted, allocBy, roverAfter, Roves}
 use Rattle.rules.proofs.Gates.{gate-open, request-open}
 use Rattle.rules.proofs.Fits.{next-fitting}
@@ -40,9 +40,7 @@ start-small : (a : List ℕ) (words : ℕ) → sound a ≡ true → {spot : Spot
 unfolding placeOf
 start-small a words e (no-gap none) = omega arith
 start-small a words e (a-gap pre s post gap) =
-    let law = sound-chunks a e .law in
-    let fills : firstChunk + (total pre + (s + total post)) ≡ length a = simp total-append at (rw (gap .0) at (law .fills)) in
-    omega (arith, law .most)
+    omega (arith, sound-around a pre (free s) post e (gap .0), sound-chunks a e .law .most)
 
 module _ (a : List ℕ) (n : ℕ) where
   -- under every policy the call is refused for the reason
@@ -58,20 +56,20 @@ module _ (a : List ℕ) (n : ℕ) where
       go Open q Open h p = absurd (let z : _≡_ {A = ℕ} 0 1 = cc in omega arith)
 
   -- a need: whoever grants what a policy picks for it does what the call under that policy comes to
-  pub record Wanted (words : ℕ) : Type 0 where
+  pub record Wanting (words : ℕ) : Type 0 where
     pub is-sound : sound a ≡ true
     pub needed : Needed words
     pub words-are : words ≡ need n
     pub gives : (policy : Policy) {answer : Answer} {after : List ℕ}
         → Gives (settle 2 a (granted NoRoom (allotting words (policy words (chunksOf a)) a))) answer after → Gives (allocBy policy a n) answer after
 
-  pub ask-wanted : (words : ℕ) → Need words ≡ askedFor a n → Wanted words
+  pub ask-wanted : (words : ℕ) → Need words ≡ askedFor a n → Wanting words
   unfolding allocBy askedFor needIn
   ask-wanted words e = go (arenaGate a) refl (requestGate (length a) n) refl e
     where
       go : (arena : Gate) → arenaGate a ≡ arena → (request : Gate) → requestGate (length a) n ≡ request
           → Need words ≡ askedPast arena (askedBy request (need n))
-          → Wanted words
+          → Wanting words
       go (Shut r) q request h p = absurd (let z : _≡_ {A = ℕ} 0 1 = cc in omega arith)
       go Open q (Shut r) h p = absurd (let z : _≡_ {A = ℕ} 0 1 = cc in omega arith)
       go Open q Open h p =
@@ -85,7 +83,7 @@ module _ (a : List ℕ) (n : ℕ) where
           }
 
 -- what a search by a fitting policy answered is picked, and to grant it is the call under that policy
-module _ (policy : Policy) (fitting : Fitting policy) {a : List ℕ} {n words : ℕ} (w : Wanted a n words) {place : Place}
+module _ (policy : Policy) (fitting : Fitting policy) {a : List ℕ} {n words : ℕ} (w : Wanting a n words) {place : Place}
     (searched : place ≡ placeOf (policy words (chunksOf a))) where
   pub picked-by : Picked a words place
   picked-by = (w .is-sound, w .needed, (policy words (chunksOf a), (fitting words (chunksOf a), searched)))
@@ -106,7 +104,7 @@ module _ (a : List ℕ) (rover n : ℕ) where
       refused : Gives (allocBy (nextFit rover) a n) (refusal 2 why) a → allocBy (nextFit rover) a n .answer .code ≢ 0
       refused g z = omega (arith, number-positive why, rw (← g .answers) at z)
 
-  rover-found : (words : ℕ) → Wanted a n words → roverAfter a rover n ≡ startIn rover (placeOf (nextFit rover words (chunksOf a)))
+  rover-found : (words : ℕ) → Wanting a n words → roverAfter a rover n ≡ startIn rover (placeOf (nextFit rover words (chunksOf a)))
   unfolding roverAfter placeOf
   rover-found words w =
       let told = w .gives (nextFit rover) (record { answers = refl; leaves = refl }) .answers in
@@ -118,7 +116,7 @@ module _ (a : List ℕ) (rover n : ℕ) where
       go (at pre k post) = refl
 
   -- otherwise it is where the chunk starts that was found, if one was
-  pub found-roves : {words : ℕ} (w : Wanted a n words) {place : Place} → place ≡ placeOf (nextFit rover words (chunksOf a))
+  pub found-roves : {words : ℕ} (w : Wanting a n words) {place : Place} → place ≡ placeOf (nextFit rover words (chunksOf a))
       → (answer : Granted) (after : List ℕ) → GrantsFrom a words place answer after
       → Roves a rover n (grantedNumbers answer) after (startIn rover place)
   found-roves {words} w searched answer after g =
@@ -127,5 +125,5 @@ module _ (a : List ℕ) (rover n : ℕ) where
         moves = ap (startIn rover) searched ∙ sym (rover-found words w);
       }
 
-  pub found-small : {words : ℕ} (w : Wanted a n words) {place : Place} → place ≡ placeOf (nextFit rover words (chunksOf a)) → StartSmall place
+  pub found-small : {words : ℕ} (w : Wanting a n words) {place : Place} → place ≡ placeOf (nextFit rover words (chunksOf a)) → StartSmall place
   found-small {words} w searched = rw searched (start-small a words (w .is-sound) (next-fitting rover words (chunksOf a)))

@@ -81,6 +81,6 @@ abbrev pub startIn : ℕ → Place → ℕ
 startIn rover (At link chunk) = chunk
 startIn rover Nowhere = rover
 
--- it lies in an arena
+-- it is no more than the longest arena's length
 abbrev pub StartSmall : Place → Type 0
 StartSmall place = startIn 0 place ≤ greatestLength

@@ -1,5 +1,5 @@
 // What the functions for C tell their callers: the code is handed back, and the fields of the answer go into a lent
-// array.
+// array. Next fit, which tells of its rover too, is called here as well, so that the function over it need only store.
 use answers::Finish;
 use answers::Granted;
 use answers::Numbers;
@@ -38,9 +38,8 @@ pub struct NextTold {
     pub rover: u32,
 }
 
-// Next fit from a rover on: a block and its granted words go into the lent array, the code and the rover are handed
-// back.
-pub fn tell_next(a: &mut [u32], rover: u32, n: u32, answer: &mut [u32; 2]) -> NextTold
+// Calls next fit: a block and its granted words go into the lent array, the code and the rover are handed back.
+pub fn call_next(a: &mut [u32], rover: u32, n: u32, answer: &mut [u32; 2]) -> NextTold
     ensures { λ r. ⌜ Roves (now (a .entry)) rover n (returned (r .code) (now (answer .exit))) (now (a .exit)) (r .rover) ⌝ }
 {
     let roved = arena::alloc_next(a, rover, n);

@@ -7,7 +7,8 @@ use Rattle.layout.specs.Numbers.{headerWords}
 use Rattle.layout.specs.Chunks.{Chunk, live}
 use Rattle.layout.specs.Walk.{sound, chunksOf}
 use Rattle.rules.specs.Spots.{Spot, at}
-use Rattle.rules.specs.Fits.{firstFit, Picks}
+use Rattle.rules.specs.Fits.{firstFit}
+use Rattle.rules.specs.Picks.{Picks}
 use Rattle.rules.specs.Rooms.{Needed}
 use Rattle.rules.specs.Rules.{Way as RuleWay}
 use Rattle.rules.specs.Rules.{shut, grants, grantFrom, allotted, Regrant}

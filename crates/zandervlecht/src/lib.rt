@@ -47,7 +47,7 @@ pub extern "C" fn zv_alloc_next(
     ensures { λ r. ⌜ Roves (now (a .entry)) (now (rover .entry) .at) n (returned r (now (answer .exit))) (now (a .exit)) (now (rover .exit) .at) ⌝ }
 {
     let at = rover.at;
-    let told = telling::tell_next(a, at, n, answer);
+    let told = telling::call_next(a, at, n, answer);
     rover.at = told.rover;
     told.code
 }

@@ -7,7 +7,7 @@ use Rattle.layout.specs.Walk.{chunksOf}
 use Rattle.rules.specs.Fits.{nextFit}
 use Rattle.rules.proofs.Fits.{next-fitting}
 use Rattle.passes.specs.Places.{placeOf}
-use Rattle.targets.proofs.Asking.{Wanted, ask-wanted, picked-by, refused-roves, found-roves, found-small}
+use Rattle.targets.proofs.Asking.{Wanting, ask-wanted, picked-by, refused-roves, found-roves, found-small}
 use Rattle.arena.proofs.alloc_next.Statement.{statement}
 use Rattle.arena.proofs.alloc_next.Tie as tie
 
@@ -19,7 +19,7 @@ abbrev asked-at : tie.After-next-fit → tie.After-asked
 asked-at c = c .before .before .before .before
 
 -- the need that it is about
-wanted : (c : tie.After-asked) → let x = began c .args in Wanted (x .a .now) (x .n) (c .asked .given .0 .0)
+wanted : (c : tie.After-asked) → let x = began c .args in Wanting (x .a .now) (x .n) (c .asked .given .0 .0)
 wanted c = ask-wanted _ _ _ (sym (c .asked .given .1) ∙ c .before .before .ask .ensures)
 
 -- what the search answered

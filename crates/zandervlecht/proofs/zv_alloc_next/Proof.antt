@@ -1,6 +1,6 @@
 -- `zandervlecht::zv_alloc_next` meets its contract: a walk of its MIR, by hand, since the borrow checker covers no
 -- reference to a struct. The rover's borrow is opened, its number read, the arena and the lent array are passed on to
--- `tell_next` for good, the number that it hands back is stored, and the borrow is closed. Of `tell_next` the walk
+-- `call_next` for good, the number that it hands back is stored, and the borrow is closed. Of `call_next` the walk
 -- knows its contract alone.
 use mathlib.Core.Path.{_≡_, refl, ap}
 use Prim.Native.Nat.{ℕ, _<_, _^_}
@@ -53,10 +53,10 @@ use Rattle.telling.specs.Returned.{returned}
 use Rattle.telling.specs.declared.NextTold.{NextTold}
 use Rattle.telling.proofs.NextTold as told
 use Rattle.telling.proofs.NextTold.Laws as told-laws
-use Rattle.telling.proofs.tell_next as tell-next
-use Rattle.telling.proofs.tell_next.Symbol as tell-next-symbol
-use Rattle.telling.proofs.tell_next.Symbol.{name as #tell-next}
-use Rattle.telling.proofs.tell_next.Met as tell-next-met
+use Rattle.telling.proofs.call_next as call-next
+use Rattle.telling.proofs.call_next.Symbol as call-next-symbol
+use Rattle.telling.proofs.call_next.Symbol.{name as #call-next}
+use Rattle.telling.proofs.call_next.Met as call-next-met
 use Rattle.zandervlecht.proofs.zv_alloc_next.Key.{name as #zv-alloc-next}
 use Rattle.zandervlecht.proofs.zv_alloc_next as zv-alloc-next
 use Rattle.zandervlecht.proofs.zv_alloc_next.Statement as stated
@@ -79,9 +79,9 @@ stayed = (
   (stay-ref (1 ∷ []) tt (plain (λ _. rover.the-row)), (stay-none (λ _. u32) yes, (gave-ref (2 ∷ []) tt pair, tt))),
 )
 
--- the contract of `tell_next`
-abbrev TellNext : {M : Type 1} (𝓤 : URA M) (H : Heap 𝓤) (A : Atoms 𝓤) (mem : Memory → SProp 𝓤) (run : Routine → Fun 𝓤) → Contract 𝓤
-TellNext 𝓤 H A mem run = tripleOf 𝓤 H A tell-next.signature (tell-next.spec 𝓤 H A mem run)
+-- the contract of `call_next`
+abbrev CallNext : {M : Type 1} (𝓤 : URA M) (H : Heap 𝓤) (A : Atoms 𝓤) (mem : Memory → SProp 𝓤) (run : Routine → Fun 𝓤) → Contract 𝓤
+CallNext 𝓤 H A mem run = tripleOf 𝓤 H A call-next.signature (call-next.spec 𝓤 H A mem run)
 
 -- the machine value of a rover
 abbrev roverVal : ℕ → Val
@@ -112,8 +112,8 @@ module _ {M : Type 1} (𝓤 : URA M) (H : Heap 𝓤) (A : Atoms 𝓤) (W : Given
       walkOf 𝓤 H A zv-alloc-next.ended stayed (zv-alloc-next.clauses 𝓤 H A at-mem run) .post
       (((κ, (κ′, (κ″, tt))), (q, (q′, (q″, tt))), tt, arguments, values), tt)
 
-  -- what `tell_next` is called with: the arena and the array go on at their own lifetimes, shares and names
-  abbrev passed : TellNext 𝓤 H A at-mem run .Ghost
+  -- what `call_next` is called with: the arena and the array go on at their own lifetimes, shares and names
+  abbrev passed : CallNext 𝓤 H A at-mem run .Ghost
   passed = (
     (
       (κ, (κ″, tt)),
@@ -142,7 +142,7 @@ module _ {M : Type 1} (𝓤 : URA M) (H : Heap 𝓤) (A : Atoms 𝓤) (W : Given
       → ent 𝓤 (⋆ 𝓤 H A
       ((‵ (flft κ q) ⊛ ‵ (flft κ″ q″))
       ∷ (‵ (MutSlice (named 0) κ u32 .own arena (arenaVal ∷ [])) ⊛ ‵ (MutRef (named 2) κ″ Pair .own array (vptr b″ o″ ∷ [])))
-      ∷ [])) (TellNext 𝓤 H A at-mem run .pre passed)
+      ∷ [])) (CallNext 𝓤 H A at-mem run .pre passed)
   goes h-fits =
       qed W
       ((‵ (flft κ q) ⊛ ‵ (flft κ″ q″))
@@ -187,7 +187,7 @@ module _ {M : Type 1} (𝓤 : URA M) (H : Heap 𝓤) (A : Atoms 𝓤) (W : Given
       move ! (1 ∷ 0 ∷ []) $ fjoin ! $ move ! (1 ∷ 0 ∷ []) $ fjoin ! $
       owned ! u32 (Is u32) (uint-makes 𝓤 H A W w32) answer _ (refl, answer-fits) $ move ! (1 ∷ 0 ∷ []) $ done !
 
-  -- the last words of what `tell_next` was lent: those of the arena, and those of the array
+  -- the last words of what `call_next` was lent: those of the arena, and those of the array
   abbrev Ends : Type 0
   Ends = List ℕ × (Unit {0} × (Unit {0} × (List ℕ × Unit {0})))
 
@@ -196,15 +196,15 @@ module _ {M : Type 1} (𝓤 : URA M) (H : Heap 𝓤) (A : Atoms 𝓤) (W : Given
   RovesTo r ends = Roves ys (h .at) n (returned (r .code) (ends .1 .1 .1 .0)) (ends .0) (r .rover)
 
   abbrev Left : NextTold → Ends → Item 𝓤
-  Left r ends = ‵ (lasts tell-next.ended (κ, (κ″, tt)) (arena, (h .at, (n, (array, tt)))) ends) ⊛ raw (fact 𝓤 (RovesTo r ends))
+  Left r ends = ‵ (lasts call-next.ended (κ, (κ″, tt)) (arena, (h .at, (n, (array, tt)))) ends) ⊛ raw (fact 𝓤 (RovesTo r ends))
 
   -- what it hands back as the machine value `w`
   abbrev Handed : Val → NextTold → Item 𝓤
   Handed w r =
       ((‵ (flft κ q) ⊛ (‵ (flft κ″ q″) ⊛ ‵ ftrue)) ⊛ ‵ (told.the-row .own r (w ∷ [])))
-      ⊛ raw (ensured 𝓤 H A tell-next.ended (tell-next.clauses 𝓤 H A at-mem run) (κ, (κ″, tt)) (arena, (h .at, (n, (array, tt)))) tt r)
+      ⊛ raw (ensured 𝓤 H A call-next.ended (call-next.clauses 𝓤 H A at-mem run) (κ, (κ″, tt)) (arena, (h .at, (n, (array, tt)))) tt r)
 
-  module _ (C : Calls 𝓤 H) (Λ : Loops 𝓤 H) (fm : FmC 𝓤 H (W .laws) C) (known : Triple 𝓤 (C #tell-next) (TellNext 𝓤 H A at-mem run)) where
+  module _ (C : Calls 𝓤 H) (Λ : Loops 𝓤 H) (fm : FmC 𝓤 H (W .laws) C) (known : Triple 𝓤 (C #call-next) (CallNext 𝓤 H A at-mem run)) where
     walk : Room u32 (length ys)
         → ent 𝓤 (onEntry 𝓤 H A zv-alloc-next.signature (κ, (κ′, (κ″, tt))) (q, (q′, (q″, tt))) arguments values)
         (WpFn 𝓤 H C Λ code.function (arenaVal ∷ vptr b′ o′ ∷ vint w32 n ∷ vptr b″ o″ ∷ []) Post)
@@ -243,8 +243,8 @@ module _ {M : Type 1} (𝓤 : URA M) (H : Heap 𝓤) (A : Atoms 𝓤) (W : Given
         assigns ! (addr ! (from ! (hop ! (look ! 22 refl) (stop !)))) (from ! (stop !)) (init ! 12 refl (tt, tt)) $
         -- the call
         move ! (7 ∷ 5 ∷ 11 ∷ 8 ∷ []) $ join ! $ move ! (1 ∷ 2 ∷ []) $ join ! $ move ! (1 ∷ 0 ∷ []) $
-        use2 W (raw (TellNext 𝓤 H A at-mem run .pre passed)) (goes h-fits) $
-        calls-at ! fm (TellNext 𝓤 H A at-mem run) known passed
+        use2 W (raw (CallNext 𝓤 H A at-mem run .pre passed)) (goes h-fits) $
+        calls-at ! fm (CallNext 𝓤 H A at-mem run) known passed
         (and-then ! (load ! (from ! (stop !)) (look ! 11 refl))
         (and-then ! (load ! (from ! (stop !)) (look ! 17 refl))
         (and-then ! (load ! (from ! (stop !)) (look ! 21 refl))
@@ -281,7 +281,7 @@ module _ {M : Type 1} (𝓤 : URA M) (H : Heap 𝓤) (A : Atoms 𝓤) (W : Given
         keep ! (0 ∷ 1 ∷ 2 ∷ 4 ∷ 6 ∷ 5 ∷ []) $ by ! (exits (r .code) moved (ends .0) (ends .1 .1 .1 .0) e l code-fits)))))))))))))))))))
 
 module _ {M : Type 1} (𝓤 : URA M) (H : Heap 𝓤) (A : Atoms 𝓤) (W : Given 𝓤 H A) (at-mem : Memory → SProp 𝓤) (run : Routine → Fun 𝓤) (𝓣 : Tables 𝓤 H)
-    (known : Triple 𝓤 (𝓣 .C #tell-next) (TellNext 𝓤 H A at-mem run)) where
+    (known : Triple 𝓤 (𝓣 .C #call-next) (CallNext 𝓤 H A at-mem run)) where
   walks : Walks 𝓤 H A zv-alloc-next.ended stayed (WpFn 𝓤 H (𝓣 .C) (𝓣 .Λ) code.function) (zv-alloc-next.clauses 𝓤 H A at-mem run)
   walks =
       walked 𝓤 H A zv-alloc-next.ended stayed (zv-alloc-next.clauses 𝓤 H A at-mem run) (WpFn 𝓤 H (𝓣 .C) (𝓣 .Λ) code.function)
@@ -332,5 +332,5 @@ zv-alloc-next-spec 𝓤 H 𝓜 𝓖 𝓡 =
     code.function
     (code.unfolded 𝓤 H 𝓜 𝓡)
     (meets 𝓤 H (𝓖 .A) (givenOf 𝓤 H 𝓜 𝓖) (𝓜 .mem) (𝓡 .run) (tablesOf 𝓤 H 𝓜 tabled)
-    (cited 𝓤 H (TellNext 𝓤 H (𝓖 .A) (𝓜 .mem) (𝓡 .run)) 𝓜 𝓡 code.env #tell-next tell-next-symbol.routine code.calls-telling·tell-next
-    (tell-next-met.met 𝓤 H 𝓜 𝓖 𝓡)))
+    (cited 𝓤 H (CallNext 𝓤 H (𝓖 .A) (𝓜 .mem) (𝓡 .run)) 𝓜 𝓡 code.env #call-next call-next-symbol.routine code.calls-telling·call-next
+    (call-next-met.met 𝓤 H 𝓜 𝓖 𝓡)))
