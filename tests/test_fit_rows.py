@@ -9,7 +9,7 @@ from support.comparing import run_rows
 from test_call_rows import NO_ARENAS, SHORT_GAP, counted, lost_lists, words
 
 # Rovers far above every arena; some are like a chunk's start in their lowest bits.
-FAR = [65536, 65538, 65560, 65574, 2**31 - 1, 2**31, 2**31 + 24, 2**32 - 8, 2**32 - 2, 2**32 - 1]
+FAR_ABOVE = [65536, 65538, 65560, 65574, 2**31 - 1, 2**31, 2**31 + 24, 2**32 - 8, 2**32 - 2, 2**32 - 1]
 
 
 def granted(call, rover, asked, before, found, fields, after):
@@ -64,9 +64,9 @@ SPLIT = {
 
 # The chunk that next fit finds with each rover: where all four fit, the two longest, and the longest alone. From the
 # word above a chunk's start on it is passed over, and behind the last that fits it goes round.
-FOUR_FIT = {2: [0, 1, 2, *range(55, 68), *FAR], 24: range(3, 25), 38: range(25, 39), 54: range(39, 55)}
-TWO_FIT = {2: [0, 1, 2, *range(39, 68), *FAR], 38: range(3, 39)}
-ONE_FITS = {2: [*range(68), *FAR]}
+FOUR_FIT = {2: [0, 1, 2, *range(55, 68), *FAR_ABOVE], 24: range(3, 25), 38: range(25, 39), 54: range(39, 55)}
+TWO_FIT = {2: [0, 1, 2, *range(39, 68), *FAR_ABOVE], 38: range(3, 39)}
+ONE_FITS = {2: [*range(68), *FAR_ABOVE]}
 
 # With these rovers an odd number of words is asked for as well, which needs as many as the even one above it.
 ODD_REQUESTS = (0, 2, 3, 24, 25, 38, 39, 54, 55, 62)
@@ -87,7 +87,7 @@ def four_gap_rows():
             if rover in ODD_REQUESTS:
                 yield granted(call, rover, need - 3, FOUR_GAPS, found, fields, after)
     for asked in (17, 18, 58):
-        for rover in [*ODD_REQUESTS, *FAR]:
+        for rover in [*ODD_REQUESTS, *FAR_ABOVE]:
             yield from refused(rover, asked, FOUR_GAPS, 6)
 
 
@@ -186,13 +186,13 @@ def equal_rows():
 def only_gap_rows():
     """Of an only free chunk all fits take the same, with any rover: it is granted whole, or its last words."""
     least = words("6 2 | 4 0 1004 1005")
-    yield from alike([*range(9), *FAR], (1, 2), least, 2, (4, 2), words("6 0 | 4 live 1004 1005"))
+    yield from alike([*range(9), *FAR_ABOVE], (1, 2), least, 2, (4, 2), words("6 0 | 4 live 1004 1005"))
     whole = words("16 0 | 6 live 1004 1005 1006 1007 | 4 live 1010 1011 | 4 live 1014 1015")
-    yield from alike([*range(19), *FAR], (1, 2), words(SHORT_GAP), 8, (10, 2), whole)
+    yield from alike([*range(19), *FAR_ABOVE], (1, 2), words(SHORT_GAP), 8, (10, 2), whole)
     before = words(f"26 8 | 6 live {counted(4, 7)} | 14 0 {counted(10, 21)} | 4 live 1024 1025")
     upper = f"6 live {counted(18, 21)} | 4 live 1024 1025"
     split = words(f"26 8 | 6 live {counted(4, 7)} | 8 0 {counted(10, 15)} | {upper}")
-    yield from alike([*range(29), *FAR], (3, 4), before, 8, (18, 4), split)
+    yield from alike([*range(29), *FAR_ABOVE], (3, 4), before, 8, (18, 4), split)
 
 
 def long_gap_rows():

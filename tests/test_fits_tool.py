@@ -1,4 +1,4 @@
-"""Holds tools/fits to the model, and the lesson docs/FITS.md to both: tables, drawings, and lists that are not run.
+"""Holds tools/fits to the model, and the lesson docs/FITS.md to both: tables, drawings, and the page's own command.
 
 Each list of the lesson has to be one that its own fit alone serves to the end. To make its drawings anew:
 python3 tests/test_fits_tool.py --count 0.
@@ -10,10 +10,10 @@ import shlex
 import subprocess
 import sys
 import tempfile
-from collections import Counter
+from collections import Counter, namedtuple
 from random import Random
 
-from support import driver, fit_lists, programs
+from support import c_programs, driver, fit_lists, programs
 from support.fit_drawings import compare_drawing
 
 LISTS = 40
@@ -27,35 +27,34 @@ SHOWN = LESSON["best fit"]
 EXAMPLE = re.compile(r"\n\n    (\d+ words\n(?:    .+\n)+)")
 ORDER, OTHER_ORDER = "E 10\nreport\nF 28", "F 28\nreport\nE 10"
 
-# Commands that are no program of cases, each with what is then said: the last one knows no call.
-UNKNOWING = shlex.join([sys.executable, "-c", "import sys; sys.stdin.buffer.read(16); print('\\7' + 9999 * '\\0')"])
-NO_PROGRAMS = [("false", "the program cases "), ("head -c 99", "gives no whole reply"),
-               ("/no/such/program", "No such file"), (UNKNOWING, "does not know call 1")]
-
 # What random lists must have met to mean anything: words in a cell, and whether the fits came to the same arena.
 MET = ["freed", "-", "Zero", "TooLarge", "NoRoom", "fits alike", "fits apart", "granted apart"]
 
+# What the tool did: its status, its table, its drawing, and what it said besides.
+Ended = namedtuple("Ended", "status table drawing said")
 
-def run_tool(root, program, content):
-    """Runs the tool of a repository on a list: its status, its table, its drawing and its complaints."""
+
+def run(command, output=subprocess.PIPE, folder=None):
+    """Runs the tool by a command, in a folder."""
+    try:
+        ended = subprocess.run(command, stdout=output, stderr=subprocess.PIPE, timeout=programs.PATIENCE, cwd=folder)
+    except subprocess.TimeoutExpired as stuck:
+        raise driver.Difference(f"the tool did not end within {programs.PATIENCE} seconds: {command}") from stuck
+    return Ended(ended.returncode, (ended.stdout or b"").decode(), None, ended.stderr.decode())
+
+
+def run_list(root, content, words, output=subprocess.PIPE):
+    """Runs the tool of a repository on a list, to be drawn unless the words say something else."""
     with tempfile.TemporaryDirectory() as folder:
         source, target = os.path.join(folder, "list"), os.path.join(folder, "drawing")
         with open(source, "wb") as file:
             file.write(content)
-        command = [sys.executable, os.path.join(root, TOOL), source, "--drawing", target, "--program", program]
-        try:
-            ended = subprocess.run(command, stdout=subprocess.PIPE, stderr=subprocess.PIPE, timeout=programs.PATIENCE)
-        except subprocess.TimeoutExpired as stuck:
-            raise driver.Difference(f"the tool did not end within {programs.PATIENCE} seconds", content) from stuck
-        drawing = None
-        if os.path.exists(target):
-            with open(target, "rb") as file:
-                drawing = file.read()
-    return ended.returncode, ended.stdout.decode(), drawing, ended.stderr.decode()
+        ended = run([*programs.PYTHON, os.path.join(root, TOOL), source, "--drawing", target, *words], output)
+        return ended._replace(drawing=content_of(folder, "drawing") if os.path.exists(target) else None)
 
 
 def content_of(root, path):
-    """The bytes of a file of a repository."""
+    """The bytes of a file, by its path from a folder."""
     with open(os.path.join(root, path), "rb") as file:
         return file.read()
 
@@ -73,30 +72,29 @@ def compare_rows(rows, due):
             raise driver.Difference(f"row {at + 1} of the table: expected {want}, got {have}")
 
 
+def check_columns(table):
+    """What is asked begins below its column's name, and the last number of a line ends below its own."""
+    fits, columns, *lines = table.split("\n")[2:]
+    begin = columns.index("request")
+    for line in filter(None, lines):
+        end = len(columns if line.split()[0].isdigit() else fits)
+        if len(line) != end or line[begin - 1] != " " or line[begin] == " ":
+            raise driver.Difference(f"the table has this line out of its columns: {line!r}")
+
+
 def compare_list(chosen, text):
     """A list that is run: its table and its drawing against the model. Gives both, and the rows."""
-    status, table, drawing, said = run_tool(chosen.root, shlex.join(chosen.cases), text.encode())
+    status, table, drawing, said = run_list(chosen.root, text.encode(), ["--program", shlex.join(chosen.cases)])
     if status != 0 or said:
         raise driver.Difference(f"a list is not run: {said}", text.encode())
     due, moments = fit_lists.run_of(text)
     try:
         compare_rows(fit_lists.rows_in(table), due)
+        check_columns(table)
         compare_drawing(drawing, moments)
-    except (driver.Difference, ValueError, IndexError, TypeError) as found:
+    except (driver.Difference, ValueError, IndexError, TypeError, AttributeError) as found:
         raise driver.Difference(f"of a list: {found}", text.encode()) from found
     return table, drawing, due
-
-
-def compare_bad(chosen):
-    """The lists that are not run, and commands that are no program of cases; gives how many they are."""
-    tried = [(text.encode(), shlex.join(chosen.cases), told) for text, told in fit_lists.BAD]
-    tried += [(b"96 words\n\xff 12\n", "false", "can't decode")]
-    tried += [(b"96 words\nA 12\n", program, told) for program, told in NO_PROGRAMS]
-    for text, program, told in tried:
-        status, table, drawing, said = run_tool(chosen.root, program, text)
-        if status != 1 or table or drawing is not None or " is not run: " not in said or told not in said:
-            raise driver.Difference(f"of the list {text!r} with {program} it was said: {said!r}", text)
-    return len(tried)
 
 
 def check_served(fit, due):
@@ -117,11 +115,11 @@ def summary_rows(path, due):
 
 
 def check_page(root, path, table, due):
-    """The page has the rows of a list, its drawing and, of one, its table."""
+    """The page has the rows of a list, its drawing and, of one, its table and the command that prints it."""
     page = content_of(root, PAGE).decode()
     shown = [f"]({os.path.basename(drawing_path(path))})", *summary_rows(path, due)]
     if path == SHOWN:
-        command = f"    python3 tools/fits {path}\n"
+        command = f"    python3 {TOOL} {path}\n"
         shown += [command, "\n" + "".join(f"    {line}".rstrip() + "\n" for line in table.splitlines()) + "\n"]
     for wanted in shown:
         if wanted not in page:
@@ -141,8 +139,27 @@ def compare_on_page(chosen):
         raise driver.Difference(f"in another order {SHOWN} is not served by all fits: {refused}")
 
 
+def compare_command(chosen, table):
+    """The page's own command prints the table that the page shows. It runs the program that is built, and no other.
+
+    Gives what is missing for that, if anything is.
+    """
+    if chosen.cases != programs.command_for("cases"):
+        return ["the page's own command (another program is given)"]
+    if not os.path.exists(os.path.join(chosen.root, programs.BUILT_CASES)):
+        return [f"the page's own command ({programs.BUILT_CASES} is not built)"]
+    ended = run([sys.executable, TOOL, SHOWN], folder=chosen.root)
+    if ended != Ended(0, table, None, ""):
+        raise driver.Difference(f"{PAGE} does not show what its own command does: {ended}")
+    return []
+
+
 def compare_lesson(chosen):
-    """The lists of the lesson: each is served to the end by its fit alone, and the page and the drawings show it."""
+    """The lists of the lesson: each is served to the end by its fit alone, and the page and the drawings show it.
+
+    Gives what is missing for the page's own command, if anything is.
+    """
+    tables = {}
     for fit, path in LESSON.items():
         table, drawing, due = compare_list(chosen, content_of(chosen.root, path).decode())
         check_served(fit, due)
@@ -152,7 +169,9 @@ def compare_lesson(chosen):
         if content_of(chosen.root, drawing_path(path)) != drawing:
             raise driver.Difference(f"{drawing_path(path)} is not what is drawn of {path}", expected=drawing)
         check_page(chosen.root, path, table, due)
+        tables[path] = table
     compare_on_page(chosen)
+    return compare_command(chosen, tables[SHOWN])
 
 
 def met_by(due):
@@ -167,15 +186,15 @@ def met_by(due):
 
 
 def compare(chosen):
-    """The lesson, lists that are run, random ones too, and such that are not."""
-    compare_lesson(chosen)
+    """The list with much in it, which shows most faults, the lesson, and others; the last line counts the lists."""
+    compare_list(chosen, fit_lists.MUCH)
+    missing = compare_lesson(chosen)
     random = Random(chosen.seed)
     lists = fit_lists.SHORT + [fit_lists.random_list(random) for _ in range(chosen.count)]
     met = Counter(what for text in lists for what in met_by(compare_list(chosen, text)[2]))
     if chosen.count >= LISTS:
         driver.check_met(met, MET, 1, "lists")
-    bad = compare_bad(chosen)
-    return f"{len(LESSON)} lists of the lesson and {len(lists)} others compared, and {bad} that are not run"
+    return f"{len(LESSON)} lists of the lesson and {len(lists) + 1} others compared{c_programs.skipped(missing)}"
 
 
 if __name__ == "__main__":

@@ -9,7 +9,7 @@ import os
 
 from support import batches, cases, driver, ledger, lines, model, picture_cases, pictures, programs, spoiling, teeth
 from support import spoiled_batch, spoiled_c, spoiled_desk, spoiled_drawing, spoiled_fits, spoiled_headers
-from support import spoiled_pages
+from support import spoiled_not_run, spoiled_pages
 from support.comparing import compare_answers, compare_replies, compare_together
 
 LINES = b"010020\n020005\n020001\n05\n03001A\n0Z\n"
@@ -166,8 +166,8 @@ def check_all_tried():
     """Each driver is tried by a row of faults, or on spoiled copies, but for those that try the others."""
     named = {os.path.basename(path)[:-len(".py")] for path in glob.glob(os.path.join(programs.TESTS, "test_*.py"))}
     tried = {trial.driver for trial in teeth.ROWS + teeth.LINES + teeth.ARENAS + teeth.PICTURES}
-    tried |= {spoiled.DRIVER for spoiled in (spoiled_pages, spoiled_drawing, spoiled_fits, spoiled_headers, spoiled_c,
-                                             spoiled_batch, spoiled_desk)}
+    tried |= {spoiled.DRIVER for spoiled in (spoiled_pages, spoiled_drawing, spoiled_fits, spoiled_not_run,
+                                             spoiled_headers, spoiled_c, spoiled_batch, spoiled_desk)}
     untried = sorted(name for name in named - tried if not name.startswith("test_teeth"))
     if untried:
         raise driver.Difference(f"nothing tries whether these complain: {untried}")

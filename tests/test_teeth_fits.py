@@ -1,17 +1,20 @@
-"""Shows that the driver of the lesson on the three fits complains: it has to see every spoiled copy."""
+"""Shows that the drivers of the lesson on the three fits complain: they have to see every spoiled copy."""
 
-from support import driver, spoiled_fits
+from support import driver, spoiled_fits, spoiled_not_run
 from support.spoiling import check_driver
 
-# So many random lists are enough, and the folders that the driver does not look at.
-FEW = "4"
+# So many random lists are enough, the folders that the drivers do not look at, and how many copies are tried at a time.
+FEW = "1"
 UNSEEN = ["bench", "crates", "tests"]
+AT_ONCE = 2
 
 
 def compare(chosen):
     """Every spoiled copy; the last line counts them."""
     words = ["--seed", str(chosen.seed), "--count", FEW]
-    return f"all {check_driver(spoiled_fits.DRIVER, spoiled_fits.SPOILED, words, UNSEEN)} spoiled copies were seen"
+    tried = [check_driver(spoiled.DRIVER, spoiled.SPOILED, words, UNSEEN, AT_ONCE)
+             for spoiled in (spoiled_fits, spoiled_not_run)]
+    return f"all {sum(tried)} spoiled copies were seen"
 
 
 if __name__ == "__main__":

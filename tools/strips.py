@@ -23,8 +23,8 @@ LEFT, WIDTH, HEIGHT, STRIP_ROOM, HEAD_ROOM, LINE_ROOM = 84, 880, 30, 62, 32, 15
 SAID, LABEL, HEADING = 10, 11, 12
 LETTERS = int(WIDTH / (BROAD * HEADING))
 
-# The words that are numbered are at most so many.
-MOST_NUMBERED = 12
+# From each word that is numbered to the next is one step, and a strip has at most so many.
+MOST_STEPS = 12
 
 
 def pointer(x, y):
@@ -108,7 +108,7 @@ class Drawing:
     def axis(self, y):
         """The numbers of some words."""
         step = 2
-        while self.words > MOST_NUMBERED * step:
+        while self.words > MOST_STEPS * step:
             step *= 2
         yield text(LEFT - 8, y, "word", "end")
         for word in range(0, self.words + 1, step):
@@ -131,8 +131,8 @@ class Drawing:
         """What the marks mean, the arrow too."""
         places = [LEFT + across for across in (0, 118, 198, 436, 700)]
         marks = ["url(#stripes)", "black", 0, "white"]
-        said = ["control words", "header", "block: its name, its granted words", "free chunk: its words, header counted",
-                arrow]
+        said = ["control words", "header", "block: its name, its granted words",
+                "free chunk: its words, header counted", arrow]
         for x, mark in zip(places, marks):
             yield from filled(x, y - 9, 22, 12, mark) if mark == 0 else [rectangle(x, y - 9, 22, 12, mark)]
         yield pointer(places[-1] + 11, y + 1)

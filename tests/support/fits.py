@@ -3,7 +3,8 @@
 from . import model
 from .over import gap_around
 
-FAR = [0, 1, 2, 3, 65535, 65536, 2**31 - 1, 2**31, 2**32 - 2, 2**32 - 1]
+# The least rovers, those at the ends of 16 and of 31 bits, and the greatest.
+OUTERMOST = [0, 1, 2, 3, 65535, 65536, 2**31 - 1, 2**31, 2**32 - 2, 2**32 - 1]
 
 # Where a rover can lie, and whether it is even: every chunk starts at an even word, and so does the end.
 ROVERS = [("rover", place, parity) for place in ("below the chunks", "in a gap", "in a live chunk", "above the end")
@@ -27,7 +28,7 @@ WANTED = [*ROVERS, *TURNS, *BEST, *PARTED, *REFUSED]
 
 
 def rover_for(random, length, starts):
-    """A rover: mostly one about where a chunk starts, else about the end, far off, or any number."""
+    """A rover: mostly one about where a chunk starts, else about the end, an outermost one, or any number."""
     kind = random.random()
     if starts and kind < 0.65:
         return random.choice(starts) + random.choice([-2, -1, 0, 0, 1, 2, 3])
@@ -35,7 +36,7 @@ def rover_for(random, length, starts):
         return random.choice(starts) + random.choice([65536, 2**31])
     if kind < 0.9:
         return random.randrange(length + 4)
-    return random.choice([*FAR, length, length, random.getrandbits(32)])
+    return random.choice([*OUTERMOST, length, length, random.getrandbits(32)])
 
 
 def place_of(rover, length, chunks):

@@ -3,12 +3,19 @@
 import os
 import shlex
 import subprocess
+import sys
 import tempfile
 import threading
 
 # The folders of the tests and of the repository.
 TESTS = os.path.dirname(os.path.dirname(os.path.abspath(__file__)))
 ROOT = os.path.dirname(TESTS)
+
+# The program of cases that is built, from the repository's top.
+BUILT_CASES = os.path.join("target", "bin", "cases")
+
+# Python, without what is installed besides it: no driver or tool needs that, and to look for it takes time.
+PYTHON = [sys.executable, "-S"]
 
 # A program that has not ended after this many seconds counts as stuck.
 PATIENCE = 240
