@@ -62,4 +62,5 @@ module _ (a : List ℕ) (n : ℕ) where
       outcome .answer .code ≡ 0
       → GrantedFrom (λ c s. IsNext rover (chunksOf a) (need n) c) a n (outcome .answer .values) (startOf (nextFit rover (need n) (chunksOf a)))
   alloc-next-found rover =
-      alloc-by-found (nextFit rover) (next-fitting rover) (λ ks need c s. IsNext rover ks need c) (λ need ks pre s post. next-is need ks pre s post rover) a n
+      alloc-by-found (nextFit rover) (next-fitting rover) (λ ks need c s. IsNext rover ks need c)
+      (λ need ks pre s post. next-is need ks pre s post rover) a n

@@ -1,5 +1,5 @@
--- What best fit picks: a free chunk that fits, than which none is smaller, and of its size none lower; nowhere, where none
--- fits.
+-- What best fit picks: a free chunk that fits, than which none is smaller, and of its size none lower; or nowhere,
+-- where none fits.
 use mathlib.Core.Path.{_≡_, refl, ap}
 use mathlib.Core.Bool.{Bool, true, false, cond}
 use mathlib.Core.List.{List, [], _∷_, _++_}
