@@ -4,6 +4,7 @@ pub mod Walking
 pub mod Holds
 pub mod Linked
 pub mod Written
+pub mod Bounds
 pub mod Chain
 pub mod Replace
 pub mod Round

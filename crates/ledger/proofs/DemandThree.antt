@@ -7,6 +7,26 @@ use Rattle.ledger.specs.Demands.{DemandThree}
 use Rattle.ledger.proofs.Demands as demands
 use Rattle.ledger.proofs.GapsLeft as gaps
 use Rattle.ledger.proofs.BatchRuns as batches
+use Rattle.ledger.specs.Promises.{Promises}
+use Rattle.ledger.proofs.Promises as promises
+use Rattle.ledger.proofs.Combs as combs
+
+-- item 8, whole
+promises-by : (policies : Policies) → AllFitting policies → Promises (libraryBy policies)
+promises-by policies fitting =
+    let kept = promises.promise policies fitting in
+    let by-ledger = promises.promise-by-ledger (libraryBy policies) kept (demands.sums policies fitting) (demands.known policies fitting) in
+    record {
+      few-free-chunks = promises.few-free-chunks policies fitting;
+      free-chunks-are-holes = promises.free-chunks-are-holes policies fitting;
+      promise = kept;
+      promise-as-asked = promises.promise-as-asked (libraryBy policies) kept;
+      promise-by-ledger = by-ledger;
+      plan = promises.plan (libraryBy policies) by-ledger;
+      even-grants = promises.even-grants policies fitting;
+      least-requests = promises.least-requests policies fitting;
+      best-of-its-kind = combs.best-of-its-kind policies fitting;
+    }
 
 pub demand-three-by : (policies : Policies) → AllFitting policies → DemandThree (libraryBy policies)
 demand-three-by policies fitting =
@@ -36,6 +56,7 @@ demand-three-by policies fitting =
       realloc-need-or-room = gaps.realloc-need-or-room policies fitting;
       same-as-singly = batches.same-as-singly (libraryBy policies);
       runs-hold-batches = batches.runs-hold-batches (libraryBy policies);
+      promises = promises-by policies fitting;
       known = demands.known policies fitting;
     }
 

@@ -16,6 +16,8 @@ pub mod Runs
 pub mod Lasting
 pub mod Demands
 pub mod GapsLeft
+pub mod Promises
+pub mod Combs
 pub mod Examples
 pub mod DemandThree
 pub mod Useless

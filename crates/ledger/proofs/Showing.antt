@@ -12,8 +12,8 @@ use Rattle.layout.specs.Walk.{sound, chunksOf}
 use Rattle.layout.specs.Reasons.{number}
 use Rattle.layout.specs.declared.Reason.{Reason}
 use Rattle.layout.specs.declared.Reason.the-variants.{Length, Damaged, NotABlock, NoRoom, WouldMove, TextRoom}
-use Rattle.rules.specs.Answers.{Answer, Outcome, success}
-use Rattle.rules.specs.Rules.{taken, freeWords, widest, liveBlocks, freeChunks}
+use Rattle.rules.specs.Answers.{Answer, Outcome, success, freeWordsIn}
+use Rattle.rules.specs.Rules.{taken}
 use Rattle.rules.specs.Pictures.{pictureLength}
 use Rattle.rules.specs.Calls.{freeOn, sizeOn, viewOn, reportOn, writeOn}
 use Rattle.rules.specs.Causes.{LawfulRequest, WriteRefused, no-length, unsound, short-text}
@@ -23,6 +23,7 @@ use Rattle.rules.specs.Picks.{AllFitting}
 use Rattle.rules.specs.Libraries.{Call, start, alloc, free, resize, relocate, realloc, size, view, report, write, read, libraryBy}
 use Rattle.layout.proofs.Round.{sound-lawful}
 use Rattle.rules.proofs.Gates.{sound-gate}
+use Rattle.rules.proofs.ReportCounts.{report-answers}
 use Rattle.rules.proofs.Searches.{block-held}
 use Rattle.rules.proofs.CallCases.{Case, done-does, Allots, allots, alloc-by-case}
 use Rattle.rules.proofs.Remainder.{cut-numbers}
@@ -36,7 +37,7 @@ use Rattle.rules.proofs.Calls.{report-behaves, write-behaves, read-behaves}
 use Rattle.rules.proofs.Pictures.{picture-length}
 use Rattle.rules.proofs.PictureCalls.{writes-sound}
 use Rattle.ledger.specs.Ledger.{Entry, Ledger, told, Done, Listed, Unlisted, begins, ends, heldWords}
-use Rattle.ledger.specs.Demands.{HasNeed, RefusedWhen, freeWordsIn, Tells}
+use Rattle.ledger.specs.Demands.{HasNeed, RefusedWhen, Tells}
 use Rattle.ledger.proofs.Blocks.{blocks-words, blocks-count}
 use Rattle.ledger.proofs.Entries.{listed-at, laid-listed, laid-above}
 use Rattle.ledger.proofs.Agreeing.{Agrees, chunked-block, agrees-laid, agrees-lawful, listed-chunked, unlisted-block}
@@ -137,15 +138,11 @@ module _ (n : ℕ) (a : List ℕ) (ledger : Ledger) (agrees : Agrees n a ledger)
 
   -- ---- what the answers tell
 
-  reported : reportOn a .answer ≡ success
-      (freeWords (chunksOf a) ∷ (widest (chunksOf a) - headerWords) ∷ liveBlocks (chunksOf a) ∷ freeChunks (chunksOf a) ∷ [])
-  unfolding reportOn
-  reported = rw (sound-gate a (agrees .is-sound))
-
   pub adds-up : freeWordsIn (reportOn a .answer) + heldWords ledger ≡ n - controlWords
   adds-up =
       let law = agrees-lawful n a ledger agrees in
-      rw (reported, agrees .lists) (omega (arith, blocks-words firstChunk (chunksOf a) (law .sizes), law .fills))
+      rw (report-answers a (agrees .is-sound), agrees .lists)
+      (omega (arith, blocks-words firstChunk (chunksOf a) (law .sizes), law .fills))
 
   sized : (e : Entry) → Listed ledger e → sizeOn a (e .block) .answer ≡ success (e .granted ∷ [])
   unfolding sizeOn
@@ -208,8 +205,8 @@ module _ (n : ℕ) (a : List ℕ) (ledger : Ledger) (agrees : Agrees n a ledger)
         size-known = λ b. refused-unlisted b (size-behaves a b .refused NotABlock);
         size-listed = sized;
         view-listed = λ e listed. ap success (viewed e listed);
-        report-done = ap (λ (answer : Answer). answer .code) reported;
-        live-blocks = rw (reported, agrees .lists) (blocks-count firstChunk (chunksOf a));
+        report-done = ap (λ (answer : Answer). answer .code) (report-answers a (agrees .is-sound));
+        live-blocks = rw (report-answers a (agrees .is-sound), agrees .lists) (blocks-count firstChunk (chunksOf a));
         write-room = text-room;
         only-write-text-room = short-of-text policies fitting a;
         write-length = λ text z.

@@ -13,7 +13,7 @@ use Rattle.layout.specs.Numbers.{controlWords, headerWords, lawful, greatestReq
 use Rattle.layout.specs.Chunks.{header, write, written}
 use Rattle.layout.specs.Walk.{meet, walk, walkFrom, walked, sound, chunksOf}
 use Rattle.layout.specs.Reasons.{arenaGate, requestGate}
-use Rattle.rules.specs.Answers.{Answer, Outcome, success}
+use Rattle.rules.specs.Answers.{Answer, Outcome, success, freeWordsIn, liveBlocksIn}
 use Rattle.rules.specs.Pictures.{pictureOf, pictureLength, Says}
 use Rattle.rules.specs.Spots.{lowest}
 use Rattle.rules.specs.Rules.{joined, copied}
@@ -32,7 +32,7 @@ use Rattle.ledger.specs.Ledger.{Entry, enter, strike, told, Done, Held, 
 use Rattle.ledger.specs.Runs.{State, Allowed, after, Run, begun, arrived, next}
 use Rattle.ledger.specs.Holders.{just, pictured, still}
 use Rattle.ledger.specs.Demands.{Starts, Receives, Lengths, Apart, Inside, Keeps, Lasts, Sums, RoomForAlloc, RoomForResize, RoomForRelocate}
-use Rattle.ledger.specs.Demands.{RoomForRealloc, ShrinksToNeed, NoMoreCrumbs, NeedOrGap, NeedOrRoom, freeWordsIn, liveBlocksIn, Known}
+use Rattle.ledger.specs.Demands.{RoomForRealloc, ShrinksToNeed, NoMoreCrumbs, NeedOrGap, NeedOrRoom, Known}
 use Rattle.ledger.proofs.Gaps.{a-hole}
 use Rattle.ledger.proofs.Examples.{clash}
 

@@ -57,7 +57,7 @@ module _ (n : ℕ) (a : List ℕ) (ledger : Ledger) (agrees : Agrees n a ledger)
       let law = agrees-lawful n a ledger agrees in
       rw (agrees .lists) (gaps-blocks n controlWords firstChunk 0 (chunksOf a) refl (sym (law .fills)) (law .sizes))
 
-  no-gap : (w : ℕ) → NoGap a (need w) ↔ EachShorter (need w) (gaps n ledger)
+  pub no-gap : (w : ℕ) → NoGap a (need w) ↔ EachShorter (need w) (gaps n ledger)
   no-gap w =
       rw gaps-agree (Iff·trans (no-gap-shorter a (need w))
       (Iff·symm (gaps-shorter (need w) (chunksOf a) (agrees-lawful n a ledger agrees .spaced) (omega arith))))

@@ -11,7 +11,7 @@ use Rattle.layout.specs.Reasons.{number}
 use Rattle.layout.specs.declared.Reason.{Reason}
 use Rattle.layout.specs.declared.Reason.the-variants.{Length, Damaged, NotABlock, NoRoom, WouldMove, TextRoom}
 use Rattle.layout.specs.Walk.{sound}
-use Rattle.rules.specs.Answers.{Answer, success}
+use Rattle.rules.specs.Answers.{Answer, success, freeWordsIn, liveBlocksIn}
 use Rattle.rules.specs.Causes.{LawfulRequest}
 use Rattle.rules.specs.Crumbs.{crumb, crumbs}
 use Rattle.rules.specs.Pictures.{pictureLength, Says}
@@ -24,6 +24,7 @@ use Rattle.ledger.specs.Gaps.{gapFrom, gaps, EachShorter, holes, RoomSho
 use Rattle.ledger.specs.Runs.{State, Allowed, after, Run}
 use Rattle.ledger.specs.BatchRuns.{afterBatch, afterSingly}
 use Rattle.ledger.specs.Holders.{wordAfter, numberAfter, Ended, StoredLast}
+use Rattle.ledger.specs.Promises.{Promises}
 
 -- `s` words, header counted, have the need of a request for `w`, and fewer over than would be split off
 abbrev pub HasNeed : ℕ → ℕ → Type 0
@@ -33,13 +34,6 @@ HasNeed w s = (need w ≤ s) × (s < need w + leastSplit)
 pub record RefusedWhen (why : Reason) (Short : Type 0) (answer : Answer) : Type 0 where
   pub refused : (answer .code ≡ number why) ↔ Short
   pub done : Done answer ↔ (Short → ⊥)
-
--- the free words, and the live blocks, that a report answers (0 where it has no such field)
-abbrev pub freeWordsIn : Answer → ℕ
-freeWordsIn answer = getD (answer .values) 0 0
-
-abbrev pub liveBlocksIn : Answer → ℕ
-liveBlocksIn answer = getD (answer .values) 2 0
 
 module _ (library : Library) where
   -- an arena of lawful length can be started, whatever its words are
@@ -211,7 +205,7 @@ module _ (library : Library) where
   abbrev pub Known : Type 0
   Known = (n : ℕ) (s : State) → Run library n s → Tells (s .words) (s .ledger)
 
-  -- demand 3, whole, with what items 1 to 7 ask of it
+  -- demand 3, whole, with what items 1 to 8 ask of it
   pub record DemandThree : Type 0 where
     pub starts : Starts
     pub receives : Receives
@@ -238,4 +232,5 @@ module _ (library : Library) where
     pub realloc-need-or-room : NeedOrRoom realloc
     pub same-as-singly : SameAsSingly
     pub runs-hold-batches : RunsHoldBatches
+    pub promises : Promises library
     pub known : Known

@@ -4,4 +4,5 @@ pub mod Gaps
 pub mod Runs
 pub mod BatchRuns
 pub mod Holders
+pub mod Promises
 pub mod Demands

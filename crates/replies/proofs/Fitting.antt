@@ -1,10 +1,10 @@
 -- The numbers of an answer fit their digits: the code has two of them, each field four.
-use Prim.Native.Nat.{ℕ, zero, suc, _+_, _-_, _≤_, _<_}
+use Prim.Native.Nat.{ℕ, _+_, _-_, _≤_, _<_}
 use mathlib.Core.Path.{_≡_, refl, ap}
 use mathlib.Core.Bool.{true}
 use mathlib.Core.List.{List, [], _∷_, _++_}
 use native.Mathlib.Omega.{arith}
-use lib.ListN.{length, replicate, length-replicate}
+use lib.ListN.{length, length-replicate}
 use Rattle.layout.specs.Numbers.{firstChunk, headerWords, need}
 use Rattle.layout.specs.Chunks.{Chunk, free, live, total}
 use Rattle.layout.specs.Walk.{sound, chunksOf}
@@ -13,6 +13,7 @@ use Rattle.layout.specs.declared.Reason.{Reason}
 use Rattle.layout.specs.declared.Reason.the-variants.{Length, Damaged, NotABlock, Zero, TooLarge, NoRoom, Frame, WouldMove, TextRoom}
 use Rattle.layout.specs.Bounds.{AllBelow}
 use Rattle.layout.proofs.Holds.{total-append}
+use Rattle.layout.proofs.Bounds.{zeros-below}
 use Rattle.layout.proofs.Round.{sound-chunks}
 use Rattle.rules.specs.Answers.{Outcome}
 use Rattle.rules.specs.Rooms.{roomWords, roomAfter}
@@ -52,14 +53,10 @@ pub record Fits (fields : ℕ) (values : List ℕ) : Type 0 where
   pub count : length values ≡ fields
   pub small : AllBelow fourDigitValues values
 
-zeros-below : (fields : ℕ) → AllBelow fourDigitValues (replicate fields 0)
-zeros-below zero = tt
-zeros-below (suc fields) = (omega arith, zeros-below fields)
-
 -- a refusal's fields are 0, so all depends on what is done
 case-fits : {fields : ℕ} {a : List ℕ} {Refuses : Reason → Type 0} {Does : List ℕ → List ℕ → Type 0} {outcome : Outcome}
     → ((values after : List ℕ) → Does values after → Fits fields values) → Case fields a Refuses Does outcome → Fits fields (outcome .answer .values)
-case-fits {fields} f (refuses why r) = record { count = length-replicate fields 0; small = zeros-below fields }
+case-fits {fields} f (refuses why r) = record { count = length-replicate fields 0; small = zeros-below fourDigitValues fields (omega arith) }
 case-fits f (does {values} {after} d) = f values after d
 
 module _ (a : List ℕ) where

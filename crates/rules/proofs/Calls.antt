@@ -1,13 +1,19 @@
 -- Each of the calls that answer behaves: the one theorem that every call has.
 use mathlib.Core.Path.{_≡_, refl, sym, ap}
+use mathlib.Core.Bool.{true}
 use mathlib.Core.List.{List}
 use Prim.Native.Nat.{ℕ}
+use native.Mathlib.Omega.{arith}
+use lib.ListN.{length}
+use Rattle.layout.specs.Numbers.{need}
+use Rattle.layout.specs.Walk.{sound}
 use Rattle.layout.specs.Reasons.{number}
 use Rattle.layout.specs.declared.Reason.{Reason}
 use Rattle.rules.specs.Answers.{Outcome}
 use Rattle.rules.specs.Calls.{startOn, allocBy, allocOn, allocBestOn, allocNextOn, freeOn, resizeOn, relocateOn, reallocOn, sizeOn, reportOn}
 use Rattle.rules.specs.Calls.{writeOn, readOn}
-use Rattle.rules.specs.Causes.{StartRefused, AllocRefused, BlockRefused, ResizeRefused, RelocateRefused, ReallocRefused, ReportRefused}
+use Rattle.rules.specs.Stands.{NoGap}
+use Rattle.rules.specs.Causes.{LawfulRequest, StartRefused, AllocRefused, BlockRefused, ResizeRefused, RelocateRefused, ReallocRefused, ReportRefused}
 use Rattle.rules.specs.Causes.{WriteRefused, ReadRefused}
 use Rattle.rules.specs.Behaves.{Behaves}
 use Rattle.rules.specs.Fits.{Policy, firstFit, bestFit, nextFit}
@@ -19,7 +25,7 @@ use Rattle.rules.proofs.CallCases.{size-case}
 use Rattle.rules.proofs.CallCases.{report-case}
 use Rattle.rules.proofs.RegrantCases.{resize-case, relocate-case, realloc-case}
 use Rattle.rules.proofs.Given.{refused-for, done-unless, start-gives, alloc-by-gives, free-gives, resize-gives, relocate-gives, realloc-gives}
-use Rattle.rules.proofs.Given.{size-gives, report-gives}
+use Rattle.rules.proofs.Given.{only-last, size-gives, report-gives}
 use Rattle.rules.proofs.Keeping.{Kept, kept, same-kept, starts-kept, allots-kept, frees-kept, resizes-kept, relocates-kept, regrants-kept}
 use Rattle.rules.proofs.Keeping.{measures-same, reports-same}
 use Rattle.rules.proofs.PictureCalls.{write-case, write-gives, writes-same, read-case, read-gives, reads-kept}
@@ -48,7 +54,14 @@ module _ (a : List ℕ) where
   pub alloc-by-behaves : (policy : Policy) → Fitting policy → (n : ℕ) → Behaves 2 a (AllocRefused a n) (allocBy policy a n)
   alloc-by-behaves policy fitting n = behaves (alloc-by-case policy fitting a n) (alloc-by-gives a policy fitting n) (allots-kept a n)
 
-  -- so under two of them it is refused in the same cases and for the same reasons
+  -- in a sound arena a lawful request is done wherever there is a gap for it
+  pub alloc-by-done : (policy : Policy) → Fitting policy → (n : ℕ) → sound a ≡ true → LawfulRequest (length a) n → (NoGap a (need n) → ⊥)
+      → allocBy policy a n .answer .code ≡ 0
+  alloc-by-done policy fitting n e request gap =
+      alloc-by-behaves policy fitting n .done .1
+      (only-last a _ _ _ _ _ e (λ h. h) (λ z. omega arith) (λ m. omega arith) ⊥ (λ h. gap (h .1)) (λ h. h))
+
+  -- under two of them it is refused in the same cases and for the same reasons
   pub codes-agree : (policy policy′ : Policy) → Fitting policy → Fitting policy′ → (n : ℕ)
       → allocBy policy a n .answer .code ≡ allocBy policy′ a n .answer .code
   codes-agree policy policy′ fitting fitting′ n = go (alloc-by-case policy fitting a n) refl

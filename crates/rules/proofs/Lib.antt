@@ -28,6 +28,7 @@ pub mod Rovers
 pub mod ThreeBlocks
 pub mod ReportCounts
 pub mod Largest
+pub mod Scattered
 pub mod Shrinking
 pub mod EmptyViews
 pub mod BlockNumbers

@@ -1,17 +1,27 @@
--- How large the report's counts can be, no count being more than the words of the chunks counted; and that its live
--- blocks and its free chunks are all chunks.
+-- What the report answers; how large its counts can be, no count being more than the words of the chunks counted; and
+-- that its live blocks and its free chunks are all chunks.
 use mathlib.Core.Path.{_≡_}
 use mathlib.Core.Bool.{true}
 use mathlib.Core.List.{List, [], _∷_}
-use Prim.Native.Nat.{ℕ, _+_, _≤_}
+use Prim.Native.Nat.{ℕ, _+_, _-_, _≤_}
 use native.Mathlib.Omega.{arith}
 use lib.ListN.{length}
-use Rattle.layout.specs.Numbers.{greatestLength}
+use Rattle.layout.specs.Numbers.{headerWords, greatestLength}
 use Rattle.layout.specs.Chunks.{Chunk, free, live, total}
 use Rattle.layout.specs.Walk.{sound, chunksOf}
 use Rattle.layout.proofs.Holds.{Sizes}
 use Rattle.layout.proofs.Round.{sound-chunks}
+use Rattle.rules.specs.Answers.{success}
 use Rattle.rules.specs.Rules.{freeWords, widest, liveBlocks, freeChunks}
+use Rattle.rules.specs.Calls.{reportOn}
+use Rattle.rules.proofs.Gates.{sound-gate}
+
+-- the report of a sound arena
+pub report-answers : (a : List ℕ) → sound a ≡ true
+    → let ks = chunksOf a in
+    reportOn a .answer ≡ success (freeWords ks ∷ (widest ks - headerWords) ∷ liveBlocks ks ∷ freeChunks ks ∷ [])
+unfolding reportOn
+report-answers a e = rw (sound-gate a e)
 
 -- each of the report's counts of `ks` is at most `n`
 pub record Below (n : ℕ) (ks : List Chunk) : Type 0 where

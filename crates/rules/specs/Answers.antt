@@ -2,7 +2,7 @@
 use Prim.Native.Nat.{ℕ}
 use mathlib.Core.Path.{_≡_}
 use mathlib.Core.List.{List, [], _∷_}
-use lib.ListN.{replicate}
+use lib.ListN.{getD, replicate}
 use Rattle.layout.specs.declared.Reason.{Reason}
 use Rattle.layout.specs.declared.Reason.the-variants.{Frame}
 use Rattle.layout.specs.declared.Gate.{Gate}
@@ -32,6 +32,20 @@ abbrev pub grantedField : List ℕ → ℕ
 grantedField [] = 0
 grantedField (granted ∷ []) = granted
 grantedField (block ∷ granted ∷ rest) = granted
+
+-- what a report's fields tell, 0 for what they do not: free words, the largest request that would be granted, live
+-- blocks, free chunks
+abbrev pub freeWordsIn : Answer → ℕ
+freeWordsIn answer = getD (answer .values) 0 0
+
+abbrev pub largestIn : Answer → ℕ
+largestIn answer = getD (answer .values) 1 0
+
+abbrev pub liveBlocksIn : Answer → ℕ
+liveBlocksIn answer = getD (answer .values) 2 0
+
+abbrev pub freeChunksIn : Answer → ℕ
+freeChunksIn answer = getD (answer .values) 3 0
 
 -- the answer, and the words of the arena afterwards
 pub record Outcome : Type 0 where

@@ -12,3 +12,4 @@ pub mod Causes
 pub mod Behaves
 pub mod Rooms
 pub mod Crumbs
+pub mod Scattered

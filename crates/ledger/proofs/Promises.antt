@@ -1,0 +1,101 @@
+-- Item 8 over every run of our calls, under any policies that are fitting; and what follows from it and from demand 3,
+-- whatever the library is.
+use mathlib.Core.Path.{_≡_, refl, ap, _∙_}
+use mathlib.Core.Logic.{inl, inr}
+use mathlib.Core.Bool.{Bool, true, false}
+use mathlib.Core.List.{[], _∷_}
+use Prim.Native.Nat.{ℕ, _+_, _*_, _≤_, _<_}
+use native.Mathlib.Nat.{add-mul, mul-le-mul-left, mul-le-mul-right, mul-lt-mul-of-pos-right}
+use native.Mathlib.Omega.{arith}
+use lib.Dec.{leb}
+use lib.ListN.{length}
+use borrow.Author.Tests.{leb-true, leb-false}
+use Rattle.layout.specs.Numbers.{headerWords, need}
+use Rattle.layout.specs.Walk.{sound}
+use Rattle.rules.specs.Answers.{liveBlocksIn}
+use Rattle.rules.specs.Scattered.{tooShort, scattered}
+use Rattle.rules.specs.Fits.{Policies}
+use Rattle.rules.specs.Picks.{AllFitting}
+use Rattle.rules.specs.Libraries.{Library, libraryBy}
+use Rattle.rules.proofs.ReportCounts.{report-answers}
+use Rattle.rules.proofs.Searches.{block-sizes}
+use Rattle.rules.proofs.Scattered as scattering
+use Rattle.ledger.specs.Ledger.{Entry, Ledger, Listed, heldWords}
+use Rattle.ledger.specs.Runs.{State, Run}
+use Rattle.ledger.specs.Demands.{Sums, Known}
+use Rattle.ledger.specs.Promises.{reported, FewFreeChunks, FreeChunksAreHoles, Promise, PromiseAsAsked, PromiseByLedger, Plan, EvenGrants, LeastRequests}
+use Rattle.ledger.proofs.Entries.{listed-split}
+use Rattle.ledger.proofs.Agreeing.{Agrees, chunked-block, listed-chunked}
+use Rattle.ledger.proofs.WantOfRoom.{no-gap, block-whole, relocate-room, realloc-room}
+use Rattle.ledger.proofs.Runs.{run-agrees}
+use Rattle.ledger.proofs.GapsLeft.{run-holes}
+
+-- ---- of our calls
+
+module _ (policies : Policies) (fitting : AllFitting policies) where
+  -- in a run the arena is sound
+  run-sound : {n : ℕ} {s : State} → Run (libraryBy policies) n s → sound (s .words) ≡ true
+  run-sound run = run-agrees policies fitting run .is-sound
+
+  pub few-free-chunks : FewFreeChunks (libraryBy policies)
+  few-free-chunks n s run = scattering.few-free-chunks (s .words) (run-sound run)
+
+  pub free-chunks-are-holes : FreeChunksAreHoles (libraryBy policies)
+  free-chunks-are-holes n s run = rw (report-answers (s .words) (run-sound run), run-holes policies fitting run) refl
+
+  pub promise : Promise (libraryBy policies) scattered
+  promise =
+      record {
+        alloc-sure = λ n s run fit w one more. scattering.sure-done (s .words) (run-sound run) w more (policies fit) (fitting fit) one;
+        relocate-sure = λ n s run e listed w one more.
+            let g = run-agrees policies fitting run in
+            let lawful = scattering.sure-lawful (s .words) (run-sound run) w more one in
+            relocate-room n (s .words) (s .ledger) g e listed w (lawful .0, omega (arith, lawful .1, g .long)) .done .1
+            (λ short. scattering.sure-gap (s .words) (run-sound run) w more (no-gap n (s .words) (s .ledger) g w .1 short));
+        realloc-sure = λ n s run e listed w one more.
+            let g = run-agrees policies fitting run in
+            let lawful = scattering.sure-lawful (s .words) (run-sound run) w more one in
+            let (below, above, q) = listed-split (s .ledger) e listed in
+            realloc-room n (s .words) (s .ledger) g below above e q w (lawful .0, omega (arith, lawful .1, g .long)) .done .1
+            (λ short. scattering.sure-gap (s .words) (run-sound run) w more (no-gap n (s .words) (s .ledger) g w .1 (short .0)));
+      }
+
+  pub even-grants : EvenGrants (libraryBy policies)
+  even-grants n s run e listed =
+      let g = run-agrees policies fitting run in
+      let (above, k) = listed-chunked n (s .words) (s .ledger) g e listed in
+      let sizes = block-sizes (s .words) _ _ _ _ (g .is-sound) (chunked-block k) in
+      omega (arith, sizes .0, block-whole n (s .words) (s .ledger) g above e k)
+
+  pub least-requests : LeastRequests (libraryBy policies)
+  least-requests n s run fit w = scattering.least-done (s .words) (run-sound run) (policies fit) (fitting fit) w
+
+-- ---- of every library that keeps its promise
+
+-- the need is more than what is too short
+as-asked : (w blocks : ℕ) → scattered w blocks < need w * (blocks + 1)
+as-asked w blocks = mul-lt-mul-of-pos-right (omega arith) (omega arith)
+
+-- so many blocks with at most so many granted words each
+held-most : (most : ℕ) (ledger : Ledger) → ((e : Entry) → Listed ledger e → e .granted ≤ most) → heldWords ledger ≤ length ledger * (headerWords + most)
+held-most most [] each = omega arith
+held-most most (e ∷ es) each =
+    omega (arith, add-mul 1 (length es) (headerWords + most), each e (inl refl), held-most most es (λ f listed. each f (inr listed)))
+
+module _ (library : Library) (kept : Promise library scattered) where
+  pub promise-as-asked : PromiseAsAsked library
+  promise-as-asked n s run fit w lawful enough = kept .alloc-sure n s run fit w (lawful .0)
+      (omega (arith, enough, as-asked w (liveBlocksIn (reported library s))))
+
+  -- the report has the ledger's numbers
+  pub promise-by-ledger : Sums library → Known library → PromiseByLedger library
+  promise-by-ledger sums known n s run fit w one more =
+      kept .alloc-sure n s run fit w one (rw (known n s run .live-blocks) (omega (arith, more, sums n s run)))
+
+-- a plan makes sure that the ledger has few enough blocks and words
+pub plan : (library : Library) → PromiseByLedger library → Plan library
+plan library by-ledger n s run blocks most few each fit w one enough =
+    let held = held-most most (s .ledger) each in
+    let times : length (s .ledger) * (headerWords + most) ≤ blocks * (headerWords + most) = mul-le-mul-right (headerWords + most) few in
+    let fewer : scattered w (length (s .ledger)) ≤ scattered w blocks = mul-le-mul-left (tooShort w) (omega (arith, few)) in
+    by-ledger n s run fit w one (omega (arith, held, times, fewer, enough))
