@@ -10,8 +10,9 @@ use lib.ListN.{set, replicate, take, drop}
 use Rattle.layout.specs.Chunks.{free as freeChunk, live as liveChunk, header, write, written}
 use Rattle.layout.specs.Walk.{meet, walk, walkFrom, walked, sound, chunksOf}
 use Rattle.layout.specs.Reasons.{number, arenaGate, requestGate}
-use Rattle.layout.specs.declared.Reason.the-variants.{Frame}
-use Rattle.rules.specs.Answers.{Answer, success, blockField, grantedField}
+use Rattle.layout.specs.declared.Reason.the-variants.{NoRoom, Frame}
+use Rattle.rules.specs.Answers.{Answer, success, refusal, blockField, grantedField}
+use Rattle.rules.specs.Scattered.{scattered}
 use Rattle.rules.specs.Spots.{lowest}
 use Rattle.rules.specs.Rules.{joined, copied}
 use Rattle.rules.specs.Pictures.{pictureOf, framesFrom, line, wordsIn, standingFrom, same, said}
@@ -134,6 +135,31 @@ pub fits-ledger : afterAll fitted fresh .ledger ≡ entry 22 2 ∷ entry 26 2 �
 unfolding startOn allocBy freeOn arenaGate requestGate sound chunksOf walked walkFrom walk meet lowest bestFit joined written write header enter
     strike
 fits-ledger = refl
+
+-- ---- item 8: calls alone come to an arena in which the promise does not hold by two words
+
+-- in 18 words, block 8 has two free chunks of 4 words beside it
+abbrev combed : List Event
+combed =
+    call (alloc first-fit 2) ∷ call (alloc first-fit 2) ∷ call (alloc first-fit 6) ∷ call (free 12) ∷ call (resize 4 2)
+    ∷ call (alloc first-fit 6) ∷ call (free 4) ∷ call (free 16) ∷ call report ∷ []
+
+-- 3 words have a need of 6
+abbrev beyond : List Event
+beyond = call (alloc first-fit 3) ∷ call (alloc best-fit 3) ∷ call (alloc (next-fit 9) 3) ∷ []
+
+abbrev smallRun : Run ours 18 (record { words = ours start (replicate 18 0) .words; ledger = [] })
+smallRun = begun (replicate 18 0) refl refl
+
+pub combed-answers :
+    answers (play smallRun (combed ++ beyond) (tt, (tt, (tt, (tt, (tt, (tt, (tt, (tt, (tt, (tt, (tt, (tt, tt)))))))))))))
+    ≡ success []
+    ∷ success (16 ∷ 2 ∷ []) ∷ success (12 ∷ 2 ∷ []) ∷ success (4 ∷ 6 ∷ []) ∷ success [] ∷ success (4 ∷ 2 ∷ [])
+    ∷ success (8 ∷ 6 ∷ []) ∷ success [] ∷ success [] ∷ success (scattered 3 1 ∷ 2 ∷ 1 ∷ 2 ∷ [])
+    ∷ refusal 2 NoRoom ∷ refusal 2 NoRoom ∷ refusal 2 NoRoom ∷ []
+unfolding startOn allocBy freeOn regrantBy reportOn arenaGate requestGate sound chunksOf walked walkFrom walk meet lowest bestFit joined written write
+    header enter strike
+combed-answers = refl
 
 -- a record that asks this, with an old answer in it
 abbrev unanswered : ℕ → ℕ → ℕ → Request

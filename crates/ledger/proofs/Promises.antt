@@ -12,22 +12,25 @@ use lib.ListN.{length}
 use borrow.Author.Tests.{leb-true, leb-false}
 use Rattle.layout.specs.Numbers.{headerWords, need}
 use Rattle.layout.specs.Walk.{sound}
-use Rattle.rules.specs.Answers.{liveBlocksIn}
+use Rattle.rules.specs.Answers.{freeWordsIn, liveBlocksIn}
+use Rattle.rules.specs.Causes.{LawfulRequest}
 use Rattle.rules.specs.Scattered.{tooShort, scattered}
-use Rattle.rules.specs.Fits.{Policies}
+use Rattle.rules.specs.Fits.{Fit, Policies}
 use Rattle.rules.specs.Picks.{AllFitting}
-use Rattle.rules.specs.Libraries.{Library, libraryBy}
+use Rattle.rules.specs.Libraries.{alloc, relocate, realloc, Library, libraryBy}
 use Rattle.rules.proofs.ReportCounts.{report-answers}
 use Rattle.rules.proofs.Searches.{block-sizes}
 use Rattle.rules.proofs.Scattered as scattering
-use Rattle.ledger.specs.Ledger.{Entry, Ledger, Listed, heldWords}
+use Rattle.ledger.specs.Ledger.{Entry, Ledger, Done, Listed, heldWords}
+use Rattle.ledger.specs.Gaps.{gaps, EachShorter}
 use Rattle.ledger.specs.Runs.{State, Run}
 use Rattle.ledger.specs.Demands.{Sums, Known}
 use Rattle.ledger.specs.Promises.{reported, FewFreeChunks, FreeChunksAreHoles, Promise, PromiseAsAsked, PromiseByLedger, Plan, EvenGrants, LeastRequests}
 use Rattle.ledger.proofs.Entries.{listed-split}
-use Rattle.ledger.proofs.Agreeing.{Agrees, chunked-block, listed-chunked}
-use Rattle.ledger.proofs.WantOfRoom.{no-gap, block-whole, relocate-room, realloc-room}
+use Rattle.ledger.proofs.Agreeing.{chunked-block, listed-chunked}
+use Rattle.ledger.proofs.WantOfRoom.{no-gap, block-whole}
 use Rattle.ledger.proofs.Runs.{run-agrees}
+use Rattle.ledger.proofs.Demands.{room-for-alloc, room-for-relocate, room-for-realloc}
 use Rattle.ledger.proofs.GapsLeft.{run-holes}
 
 -- ---- of our calls
@@ -43,21 +46,37 @@ module _ (policies : Policies) (fitting : AllFitting policies) where
   pub free-chunks-are-holes : FreeChunksAreHoles (libraryBy policies)
   free-chunks-are-holes n s run = rw (report-answers (s .words) (run-sound run), run-holes policies fitting run) refl
 
+  -- a request that more words are free for than can lie scattered is lawful, and some gap is long enough for it
+  module _ (n : ℕ) (s : State) (run : Run (libraryBy policies) n s) (w : ℕ) (one : 1 ≤ w)
+      (more : scattered w (liveBlocksIn (reported (libraryBy policies) s)) < freeWordsIn (reported (libraryBy policies) s)) where
+    sure-request : LawfulRequest n w
+    sure-request =
+        let r = scattering.sure-lawful (s .words) (run-sound run) w more one in
+        (r .0, omega (arith, r .1, run-agrees policies fitting run .long))
+
+    sure-gap : EachShorter (need w) (gaps n (s .ledger)) → ⊥
+    sure-gap short =
+        scattering.sure-gap (s .words) (run-sound run) w more (no-gap n (s .words) (s .ledger) (run-agrees policies fitting run) w .1 short)
+
+    -- so a call that needs a gap has one
+    alloc-done : (fit : Fit) → Done (libraryBy policies (alloc fit w) (s .words) .answer)
+    alloc-done fit = room-for-alloc policies fitting fit n s run w sure-request .done .1 sure-gap
+
+    module _ (e : Entry) (listed : Listed (s .ledger) e) where
+      relocate-done : Done (libraryBy policies (relocate (e .block) w) (s .words) .answer)
+      relocate-done = room-for-relocate policies fitting n s run e listed w sure-request .done .1 sure-gap
+
+      realloc-done : Done (libraryBy policies (realloc (e .block) w) (s .words) .answer)
+      realloc-done =
+          let (below, above, q) = listed-split (s .ledger) e listed in
+          room-for-realloc policies fitting n s run below above e q w sure-request .done .1 (λ short. sure-gap (short .0))
+
   pub promise : Promise (libraryBy policies) scattered
   promise =
       record {
-        alloc-sure = λ n s run fit w one more. scattering.sure-done (s .words) (run-sound run) w more (policies fit) (fitting fit) one;
-        relocate-sure = λ n s run e listed w one more.
-            let g = run-agrees policies fitting run in
-            let lawful = scattering.sure-lawful (s .words) (run-sound run) w more one in
-            relocate-room n (s .words) (s .ledger) g e listed w (lawful .0, omega (arith, lawful .1, g .long)) .done .1
-            (λ short. scattering.sure-gap (s .words) (run-sound run) w more (no-gap n (s .words) (s .ledger) g w .1 short));
-        realloc-sure = λ n s run e listed w one more.
-            let g = run-agrees policies fitting run in
-            let lawful = scattering.sure-lawful (s .words) (run-sound run) w more one in
-            let (below, above, q) = listed-split (s .ledger) e listed in
-            realloc-room n (s .words) (s .ledger) g below above e q w (lawful .0, omega (arith, lawful .1, g .long)) .done .1
-            (λ short. scattering.sure-gap (s .words) (run-sound run) w more (no-gap n (s .words) (s .ledger) g w .1 (short .0)));
+        alloc-sure = λ n s run fit w one more. alloc-done n s run w one more fit;
+        relocate-sure = λ n s run e listed w one more. relocate-done n s run w one more e listed;
+        realloc-sure = λ n s run e listed w one more. realloc-done n s run w one more e listed;
       }
 
   pub even-grants : EvenGrants (libraryBy policies)
@@ -68,7 +87,7 @@ module _ (policies : Policies) (fitting : AllFitting policies) where
       omega (arith, sizes .0, block-whole n (s .words) (s .ledger) g above e k)
 
   pub least-requests : LeastRequests (libraryBy policies)
-  least-requests n s run fit w = scattering.least-done (s .words) (run-sound run) (policies fit) (fitting fit) w
+  least-requests n s run fit w one small some = scattering.least-done (s .words) (run-sound run) (policies fit) (fitting fit) w one small some
 
 -- ---- of every library that keeps its promise
 

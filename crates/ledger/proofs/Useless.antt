@@ -13,7 +13,7 @@ use Rattle.layout.specs.Numbers.{controlWords, headerWords, lawful, greatestReq
 use Rattle.layout.specs.Chunks.{header, write, written}
 use Rattle.layout.specs.Walk.{meet, walk, walkFrom, walked, sound, chunksOf}
 use Rattle.layout.specs.Reasons.{arenaGate, requestGate}
-use Rattle.rules.specs.Answers.{Answer, Outcome, success, freeWordsIn, liveBlocksIn}
+use Rattle.rules.specs.Answers.{Answer, Outcome, success, freeWordsIn, liveBlocksIn, freeChunksIn}
 use Rattle.rules.specs.Pictures.{pictureOf, pictureLength, Says}
 use Rattle.rules.specs.Spots.{lowest}
 use Rattle.rules.specs.Rules.{joined, copied}
@@ -33,6 +33,7 @@ use Rattle.ledger.specs.Runs.{State, Allowed, after, Run, begun, arrived
 use Rattle.ledger.specs.Holders.{just, pictured, still}
 use Rattle.ledger.specs.Demands.{Starts, Receives, Lengths, Apart, Inside, Keeps, Lasts, Sums, RoomForAlloc, RoomForResize, RoomForRelocate}
 use Rattle.ledger.specs.Demands.{RoomForRealloc, ShrinksToNeed, NoMoreCrumbs, NeedOrGap, NeedOrRoom, Known}
+use Rattle.ledger.specs.Promises.{FreeChunksAreHoles, PromiseByLedger}
 use Rattle.ledger.proofs.Gaps.{a-hole}
 use Rattle.ledger.proofs.Examples.{clash}
 
@@ -163,6 +164,28 @@ module _ (fit : Fit) where
       let after : total 6 + (told (library (alloc fit 2) (library start (replicate 6 0) .words) .answer) .granted + 2) ≡ 4 =
       rw (← lengths 6 _ (o .once), ← made) (omega (arith, sums 6 _ (o .once))) in
       omega arith
+
+-- ---- one that reports no free chunks
+
+-- the report tells 0 free chunks, which are never too many
+abbrev pub ReportsNoChunks : Library → Type 0
+ReportsNoChunks library = (a : List ℕ) → freeChunksIn (library report a .answer) ≡ 0
+
+-- they are not the gaps of the ledger: a new arena is one
+pub reports-no-chunks : (library : Library) → ReportsNoChunks library → FreeChunksAreHoles library → ⊥
+reports-no-chunks library none holes-are =
+    omega (arith, none (library start (replicate 6 0) .words), holes-are 6 _ (begun (replicate 6 0) refl refl))
+
+-- ---- one that never grants under one of the fits
+
+module _ (fit : Fit) where
+  -- an alloc under it is never done, for whatever reasons and whatever it writes
+  abbrev pub NeverGrants : Library → Type 0
+  NeverGrants library = (w : ℕ) (a : List ℕ) → Done (library (alloc fit w) a .answer) → ⊥
+
+  -- it breaks the promise of item 8: in a new arena of 6 words a request of 2 is sure
+  pub never-grants : (library : Library) → NeverGrants library → PromiseByLedger library → ⊥
+  never-grants library refuses kept = refuses 2 _ (kept 6 _ (begun (replicate 6 0) refl refl) fit 2 (omega arith) (omega arith))
 
 -- ---- one that reports no live blocks
 
