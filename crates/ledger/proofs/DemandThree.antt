@@ -3,30 +3,41 @@ use Rattle.rules.specs.Fits.{Policies, policyOf}
 use Rattle.rules.specs.Picks.{AllFitting}
 use Rattle.rules.specs.Libraries.{libraryBy, ours}
 use Rattle.rules.proofs.Fits.{all-fitting}
+use Rattle.ledger.specs.Promises.{Promises}
+use Rattle.ledger.specs.Plans.{Plans}
 use Rattle.ledger.specs.Demands.{DemandThree}
 use Rattle.ledger.proofs.Demands as demands
 use Rattle.ledger.proofs.GapsLeft as gaps
 use Rattle.ledger.proofs.BatchRuns as batches
-use Rattle.ledger.specs.Promises.{Promises}
 use Rattle.ledger.proofs.Promises as promises
+use Rattle.ledger.proofs.Plans as plans
 use Rattle.ledger.proofs.Combs as combs
 
--- item 8, whole
-promises-by : (policies : Policies) → AllFitting policies → Promises (libraryBy policies)
-promises-by policies fitting =
-    let kept = promises.promise policies fitting in
-    let by-ledger = promises.promise-by-ledger (libraryBy policies) kept (demands.sums policies fitting) (demands.known policies fitting) in
-    record {
-      few-free-chunks = promises.few-free-chunks policies fitting;
-      free-chunks-are-holes = promises.free-chunks-are-holes policies fitting;
-      promise = kept;
-      promise-as-asked = promises.promise-as-asked (libraryBy policies) kept;
-      promise-by-ledger = by-ledger;
-      plan = promises.plan (libraryBy policies) by-ledger;
-      even-grants = promises.even-grants policies fitting;
-      least-requests = promises.least-requests policies fitting;
-      best-of-its-kind = combs.best-of-its-kind policies fitting;
-    }
+module _ (policies : Policies) (fitting : AllFitting policies) where
+  -- item 8
+  promises-by : Promises (libraryBy policies)
+  promises-by =
+      let kept = promises.promise policies fitting in
+      record {
+        few-free-chunks = promises.few-free-chunks policies fitting;
+        free-chunks-are-holes = promises.free-chunks-are-holes policies fitting;
+        promise = kept;
+        promise-as-asked = promises.promise-as-asked (libraryBy policies) kept;
+        promise-by-ledger = promises.promise-by-ledger (libraryBy policies) kept (demands.sums policies fitting) (demands.known policies fitting);
+        least-requests = promises.least-requests policies fitting;
+        best-of-its-kind = combs.best-of-its-kind policies fitting;
+      }
+
+  -- and what it makes of plans
+  plans-by : Plans (libraryBy policies)
+  plans-by =
+      let by-ledger = plans.plan-by-ledger (libraryBy policies) (promises-by .promise-by-ledger) in
+      let even = plans.even-grants policies fitting in
+      record {
+        plan-by-ledger = by-ledger;
+        even-grants = even;
+        plan = plans.plan (libraryBy policies) (demands.known policies fitting) even by-ledger;
+      }
 
 pub demand-three-by : (policies : Policies) → AllFitting policies → DemandThree (libraryBy policies)
 demand-three-by policies fitting =
@@ -57,6 +68,7 @@ demand-three-by policies fitting =
       same-as-singly = batches.same-as-singly (libraryBy policies);
       runs-hold-batches = batches.runs-hold-batches (libraryBy policies);
       promises = promises-by policies fitting;
+      plans = plans-by policies fitting;
       known = demands.known policies fitting;
     }
 

@@ -1,6 +1,6 @@
 -- The entries of a ledger: where they lie, and which ones it has, and where, once one is put in or struck out.
 use mathlib.Core.Path.{_≡_, refl, sym, ap, _∙_}
-use mathlib.Core.Logic.{_≢_, _⊎_, inl, inr}
+use mathlib.Core.Logic.{_≢_, _⊎_, inl, inr, ⊎-elim}
 use mathlib.Core.Bool.{Bool, true, false, cond}
 use mathlib.Core.List.{[], _∷_, _++_}
 use Prim.Native.Nat.{ℕ, _+_, _≤_}
@@ -43,6 +43,20 @@ module _ (e : Entry) where
       go true l r = inr l
       go false (inl q) r = inl q
       go false (inr l) r = inr (r l)
+
+  -- and there are no others
+  pub listed-entered : (es : Ledger) (g : Entry) → Listed (enter e es) g → (e ≡ g) ⊎ Listed es g
+  unfolding enter
+  listed-entered [] g (inl q) = inl q
+  listed-entered [] g (inr l) = absurd l
+  listed-entered (f ∷ fs) g l = go (leb (e .block) (f .block)) l (listed-entered fs g)
+    where
+      go : (first : Bool) → Listed (cond first (e ∷ f ∷ fs) (f ∷ enter e fs)) g → (Listed (enter e fs) g → (e ≡ g) ⊎ Listed fs g)
+          → (e ≡ g) ⊎ Listed (f ∷ fs) g
+      go true (inl q) r = inl q
+      go true (inr l) r = inr l
+      go false (inl q) r = inr (inl q)
+      go false (inr l) r = ⊎-elim inl (λ m. inr (inr m)) (r l)
 
 module _ (b : ℕ) where
   pub listed-strike : (es : Ledger) (g : Entry) → g .block ≢ b → Listed es g → Listed (strike b es) g

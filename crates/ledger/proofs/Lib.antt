@@ -17,6 +17,7 @@ pub mod Lasting
 pub mod Demands
 pub mod GapsLeft
 pub mod Promises
+pub mod Plans
 pub mod Combs
 pub mod Examples
 pub mod DemandThree

@@ -1,34 +1,27 @@
 -- Item 8 over every run of our calls, under any policies that are fitting; and what follows from it and from demand 3,
 -- whatever the library is.
-use mathlib.Core.Path.{_≡_, refl, ap, _∙_}
-use mathlib.Core.Logic.{inl, inr}
-use mathlib.Core.Bool.{Bool, true, false}
-use mathlib.Core.List.{[], _∷_}
+use mathlib.Core.Path.{_≡_, refl}
+use mathlib.Core.Bool.{true}
 use Prim.Native.Nat.{ℕ, _+_, _*_, _≤_, _<_}
-use native.Mathlib.Nat.{add-mul, mul-le-mul-left, mul-le-mul-right, mul-lt-mul-of-pos-right}
+use native.Mathlib.Nat.{mul-lt-mul-of-pos-right}
 use native.Mathlib.Omega.{arith}
-use lib.Dec.{leb}
-use lib.ListN.{length}
-use borrow.Author.Tests.{leb-true, leb-false}
-use Rattle.layout.specs.Numbers.{headerWords, need}
+use Rattle.layout.specs.Numbers.{need}
 use Rattle.layout.specs.Walk.{sound}
 use Rattle.rules.specs.Answers.{freeWordsIn, liveBlocksIn}
 use Rattle.rules.specs.Causes.{LawfulRequest}
-use Rattle.rules.specs.Scattered.{tooShort, scattered}
+use Rattle.rules.specs.Scattered.{scattered}
 use Rattle.rules.specs.Fits.{Fit, Policies}
 use Rattle.rules.specs.Picks.{AllFitting}
 use Rattle.rules.specs.Libraries.{alloc, relocate, realloc, Library, libraryBy}
 use Rattle.rules.proofs.ReportCounts.{report-answers}
-use Rattle.rules.proofs.Searches.{block-sizes}
 use Rattle.rules.proofs.Scattered as scattering
-use Rattle.ledger.specs.Ledger.{Entry, Ledger, Done, Listed, heldWords}
+use Rattle.ledger.specs.Ledger.{Entry, Done, Listed}
 use Rattle.ledger.specs.Gaps.{gaps, EachShorter}
 use Rattle.ledger.specs.Runs.{State, Run}
 use Rattle.ledger.specs.Demands.{Sums, Known}
-use Rattle.ledger.specs.Promises.{reported, FewFreeChunks, FreeChunksAreHoles, Promise, PromiseAsAsked, PromiseByLedger, Plan, EvenGrants, LeastRequests}
+use Rattle.ledger.specs.Promises.{reported, FewFreeChunks, FreeChunksAreHoles, Promise, PromiseAsAsked, PromiseByLedger, LeastRequests}
 use Rattle.ledger.proofs.Entries.{listed-split}
-use Rattle.ledger.proofs.Agreeing.{chunked-block, listed-chunked}
-use Rattle.ledger.proofs.WantOfRoom.{no-gap, block-whole}
+use Rattle.ledger.proofs.WantOfRoom.{no-gap}
 use Rattle.ledger.proofs.Runs.{run-agrees}
 use Rattle.ledger.proofs.Demands.{room-for-alloc, room-for-relocate, room-for-realloc}
 use Rattle.ledger.proofs.GapsLeft.{run-holes}
@@ -79,13 +72,6 @@ module _ (policies : Policies) (fitting : AllFitting policies) where
         realloc-sure = λ n s run e listed w one more. realloc-done n s run w one more e listed;
       }
 
-  pub even-grants : EvenGrants (libraryBy policies)
-  even-grants n s run e listed =
-      let g = run-agrees policies fitting run in
-      let (above, k) = listed-chunked n (s .words) (s .ledger) g e listed in
-      let sizes = block-sizes (s .words) _ _ _ _ (g .is-sound) (chunked-block k) in
-      omega (arith, sizes .0, block-whole n (s .words) (s .ledger) g above e k)
-
   pub least-requests : LeastRequests (libraryBy policies)
   least-requests n s run fit w one small some = scattering.least-done (s .words) (run-sound run) (policies fit) (fitting fit) w one small some
 
@@ -94,12 +80,6 @@ module _ (policies : Policies) (fitting : AllFitting policies) where
 -- the need is more than what is too short
 as-asked : (w blocks : ℕ) → scattered w blocks < need w * (blocks + 1)
 as-asked w blocks = mul-lt-mul-of-pos-right (omega arith) (omega arith)
-
--- so many blocks with at most so many granted words each
-held-most : (most : ℕ) (ledger : Ledger) → ((e : Entry) → Listed ledger e → e .granted ≤ most) → heldWords ledger ≤ length ledger * (headerWords + most)
-held-most most [] each = omega arith
-held-most most (e ∷ es) each =
-    omega (arith, add-mul 1 (length es) (headerWords + most), each e (inl refl), held-most most es (λ f listed. each f (inr listed)))
 
 module _ (library : Library) (kept : Promise library scattered) where
   pub promise-as-asked : PromiseAsAsked library
@@ -110,11 +90,3 @@ module _ (library : Library) (kept : Promise library scattered) where
   pub promise-by-ledger : Sums library → Known library → PromiseByLedger library
   promise-by-ledger sums known n s run fit w one more =
       kept .alloc-sure n s run fit w one (rw (known n s run .live-blocks) (omega (arith, more, sums n s run)))
-
--- a plan makes sure that the ledger has few enough blocks and words
-pub plan : (library : Library) → PromiseByLedger library → Plan library
-plan library by-ledger n s run blocks most few each fit w one enough =
-    let held = held-most most (s .ledger) each in
-    let times : length (s .ledger) * (headerWords + most) ≤ blocks * (headerWords + most) = mul-le-mul-right (headerWords + most) few in
-    let fewer : scattered w (length (s .ledger)) ≤ scattered w blocks = mul-le-mul-left (tooShort w) (omega (arith, few)) in
-    by-ledger n s run fit w one (omega (arith, held, times, fewer, enough))

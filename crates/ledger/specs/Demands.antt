@@ -25,6 +25,7 @@ use Rattle.ledger.specs.Runs.{State, Allowed, after, Run}
 use Rattle.ledger.specs.BatchRuns.{afterBatch, afterSingly}
 use Rattle.ledger.specs.Holders.{wordAfter, numberAfter, Ended, StoredLast}
 use Rattle.ledger.specs.Promises.{Promises}
+use Rattle.ledger.specs.Plans.{Plans}
 
 -- `s` words, header counted, have the need of a request for `w`, and fewer over than would be split off
 abbrev pub HasNeed : ℕ → ℕ → Type 0
@@ -233,4 +234,5 @@ module _ (library : Library) where
     pub same-as-singly : SameAsSingly
     pub runs-hold-batches : RunsHoldBatches
     pub promises : Promises library
+    pub plans : Plans library
     pub known : Known

@@ -5,4 +5,5 @@ pub mod Runs
 pub mod BatchRuns
 pub mod Holders
 pub mod Promises
+pub mod Plans
 pub mod Demands

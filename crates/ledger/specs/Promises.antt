@@ -1,10 +1,10 @@
 -- Item 8: when a request is sure to be done, whatever came before it; told by the report, and by the ledger alone. `n` is
--- the arena's number of words, `w` how many words are asked for.
-use Prim.Native.Nat.{ℕ, _+_, _-_, _*_, _%_, _≤_, _<_}
+-- the arena's number of words, `w` how many words are asked for, `scattered` the bound.
+use Prim.Native.Nat.{ℕ, _+_, _-_, _*_, _≤_, _<_}
 use mathlib.Core.Path.{_≡_}
 use mathlib.Core.Bool.{true}
 use lib.ListN.{length}
-use Rattle.layout.specs.Numbers.{controlWords, headerWords, leastSize, lawful, need}
+use Rattle.layout.specs.Numbers.{controlWords, leastSize, lawful, need}
 use Rattle.layout.specs.Reasons.{number}
 use Rattle.layout.specs.declared.Reason.the-variants.{NoRoom}
 use Rattle.rules.specs.Answers.{Answer, freeWordsIn, liveBlocksIn, freeChunksIn}
@@ -63,25 +63,13 @@ module _ (library : Library) where
       (n : ℕ) (s : State) → Run library n s → (fit : Fit) (w : ℕ) → 1 ≤ w → scattered w (length (s .ledger)) < unheldWords n (s .ledger)
       → Done (library (alloc fit w) (s .words) .answer)
 
-  -- and for whoever plans ahead, and holds at most `blocks` blocks, each with at most `most` granted words
-  abbrev pub Plan : Type 0
-  Plan =
-      (n : ℕ) (s : State) → Run library n s → (blocks most : ℕ) → length (s .ledger) ≤ blocks
-      → ((e : Entry) → Listed (s .ledger) e → e .granted ≤ most)
-      → (fit : Fit) (w : ℕ) → 1 ≤ w → controlWords + blocks * (headerWords + most) + scattered w blocks < n
-      → Done (library (alloc fit w) (s .words) .answer)
-
-  -- for which it helps to know that granted words are even
-  abbrev pub EvenGrants : Type 0
-  EvenGrants = (n : ℕ) (s : State) → Run library n s → (e : Entry) → Listed (s .ledger) e → e .granted % 2 ≡ 0
-
   -- a request that needs no more than the least chunk has is done wherever any word is free
   abbrev pub LeastRequests : Type 0
   LeastRequests =
       (n : ℕ) (s : State) → Run library n s → (fit : Fit) (w : ℕ) → 1 ≤ w → need w ≤ leastSize → 0 < freeWordsIn (reported s)
       → Done (library (alloc fit w) (s .words) .answer)
 
-  -- ---- that it is the best of its kind
+  -- ---- it is the best of its kind
 
   -- a run in an arena of `n` words, with so many live blocks and so many free words, after which a request of `w` words
   -- finds no room under any fit
@@ -99,7 +87,7 @@ module _ (library : Library) where
       (n w blocks : ℕ) → lawful n ≡ true → 3 ≤ w → 1 ≤ blocks → controlWords + blocks * leastSize + scattered w blocks ≤ n
       → Refusing n w blocks (scattered w blocks)
 
-  -- ---- all of it
+  -- ---- all of that
 
   pub record Promises : Type 0 where
     pub few-free-chunks : FewFreeChunks
@@ -107,7 +95,5 @@ module _ (library : Library) where
     pub promise : Promise scattered
     pub promise-as-asked : PromiseAsAsked
     pub promise-by-ledger : PromiseByLedger
-    pub plan : Plan
-    pub even-grants : EvenGrants
     pub least-requests : LeastRequests
     pub best-of-its-kind : BestOfItsKind
