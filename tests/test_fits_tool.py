@@ -1,7 +1,8 @@
 """Holds tools/fits to the model, and the lesson docs/FITS.md to both: tables, drawings, and the page's own command.
 
-Each list of the lesson has to be one that its own fit alone serves to the end. To make its drawings anew:
-python3 tests/test_fits_tool.py --count 0.
+Each list of the lesson has to be one that its own fit alone serves to the end. The list of the promise, whose drawing
+docs/BOARD.md shows, is one that all fits serve alike. To make the drawings anew: python3 tests/test_fits_tool.py
+--count 0.
 """
 
 import os
@@ -22,6 +23,10 @@ TOOL, PAGE = "tools/fits", "docs/FITS.md"
 # The lists of the lesson, by the fit that alone serves the last request, and the one whose table the page has.
 LESSON = {"first fit": "docs/fits-first.txt", "best fit": "docs/fits-best.txt", "next fit": "docs/fits-next.txt"}
 SHOWN = LESSON["best fit"]
+
+# The list of the promise, the page that shows its drawing, and which of its last requests each fit grants.
+PROMISE, PROMISE_PAGE = "docs/promise.txt", "docs/BOARD.md"
+PROMISED = {"E 12": [False] * 3, "F 10": [True] * 3}
 
 # The list that the page has to start from; and what the page says of another order: all three then serve all requests.
 EXAMPLE = re.compile(r"\n\n    (\d+ words\n(?:    .+\n)+)")
@@ -154,6 +159,26 @@ def compare_command(chosen, table):
     return []
 
 
+def check_drawing(chosen, path, drawing):
+    """The drawing of a page's list is what is drawn of it; it is made anew where nothing is counted."""
+    if chosen.count == 0:
+        with open(os.path.join(chosen.root, drawing_path(path)), "wb") as file:
+            file.write(drawing)
+    if content_of(chosen.root, drawing_path(path)) != drawing:
+        raise driver.Difference(f"{drawing_path(path)} is not what is drawn of {path}", expected=drawing)
+
+
+def compare_promise(chosen):
+    """The list of the promise: of its last requests one is refused under every fit, and the other granted."""
+    table, drawing, due = compare_list(chosen, content_of(chosen.root, PROMISE).decode())
+    granted = {row.told: [isinstance(cell, tuple) for cell in row.cells] for row in due[-3:-1]}
+    if granted != PROMISED:
+        raise driver.Difference(f"the last requests of {PROMISE} came to {granted}")
+    check_drawing(chosen, PROMISE, drawing)
+    if f"]({os.path.basename(drawing_path(PROMISE))})" not in content_of(chosen.root, PROMISE_PAGE).decode():
+        raise driver.Difference(f"{PROMISE_PAGE} does not show the drawing of {PROMISE}")
+
+
 def compare_lesson(chosen):
     """The lists of the lesson: each is served to the end by its fit alone, and the page and the drawings show it.
 
@@ -163,11 +188,7 @@ def compare_lesson(chosen):
     for fit, path in LESSON.items():
         table, drawing, due = compare_list(chosen, content_of(chosen.root, path).decode())
         check_served(fit, due)
-        if chosen.count == 0:
-            with open(os.path.join(chosen.root, drawing_path(path)), "wb") as file:
-                file.write(drawing)
-        if content_of(chosen.root, drawing_path(path)) != drawing:
-            raise driver.Difference(f"{drawing_path(path)} is not what is drawn of {path}", expected=drawing)
+        check_drawing(chosen, path, drawing)
         check_page(chosen.root, path, table, due)
         tables[path] = table
     compare_on_page(chosen)
@@ -189,12 +210,13 @@ def compare(chosen):
     """The list with much in it, which shows most faults, the lesson, and others; the last line counts the lists."""
     compare_list(chosen, fit_lists.MUCH)
     missing = compare_lesson(chosen)
+    compare_promise(chosen)
     random = Random(chosen.seed)
     lists = fit_lists.SHORT + [fit_lists.random_list(random) for _ in range(chosen.count)]
     met = Counter(what for text in lists for what in met_by(compare_list(chosen, text)[2]))
     if chosen.count >= LISTS:
         driver.check_met(met, MET, 1, "lists")
-    return f"{len(LESSON)} lists of the lesson and {len(lists) + 1} others compared{c_programs.skipped(missing)}"
+    return f"{len(LESSON)} lists of the lesson and {len(lists) + 2} others compared{c_programs.skipped(missing)}"
 
 
 if __name__ == "__main__":

@@ -9,6 +9,9 @@ from support.comparing import run_lines
 # A row of a table that shows a line and its reply.
 ROW = re.compile(r"\| `([0-9A-F]+)` \| `([0-9A-F]+)` \|")
 
+# How many rows the examples have: those of docs/BOARD.md, and the one to paste.
+LENGTHS = [6, 15, 10, 4]
+
 # The example to paste, and the replies below it.
 PASTED = re.compile(r"printf '((?:[0-9A-F]+\\n)+)' \| bash run\n")
 REPLY = re.compile(r"^    ([0-9A-F]+)$", re.MULTILINE)
@@ -47,9 +50,9 @@ def example_command(chosen):
 def compare(chosen):
     """Every example is a run of its own; the last line counts the rows."""
     examples = [*tables_of(page("docs", "BOARD.md")), pasted_rows(page("README.md"))]
-    if [len(rows) for rows in examples] != [6, 15, 4]:
-        raise driver.Difference(f"examples of {[len(rows) for rows in examples]} rows were found, not of 6, 15 and 4")
-    commands = [chosen.board, chosen.board, example_command(chosen)]
+    if [len(rows) for rows in examples] != LENGTHS:
+        raise driver.Difference(f"examples of {[len(rows) for rows in examples]} rows were found, not of {LENGTHS}")
+    commands = [*[chosen.board] * (len(LENGTHS) - 1), example_command(chosen)]
     for command, rows in zip(commands, examples):
         text = "".join(line + "\n" for line, reply in rows).encode()
         run_lines(command, text, expected="".join(reply + "\n" for line, reply in rows).encode())
