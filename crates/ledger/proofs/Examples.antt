@@ -1,6 +1,7 @@
--- Runs that are there, computed: that of document 01's table, in single calls and as one batch; its move, which goes on
--- to a cut and a free, with what was stored last in the block; the same move by resize and relocate, which goes on to a
--- move to a shorter block, and to a resize; and the picture of the moved arena, which is mailed and read back.
+-- Runs that are there, computed: that of document 01's table, in single calls and as one batch; the three fits in one
+-- run; calls alone that come to the bound of item 8's promise; document 01's move, which goes on to a cut and a free,
+-- with what was stored last in the block; the same move by resize and relocate, which goes on to a move to a shorter
+-- block, and to a resize; and the picture of the moved arena, which is mailed and read back.
 use Prim.Native.Nat.{ℕ, _<_}
 use mathlib.Core.Path.{_≡_, refl, ap}
 use mathlib.Core.Logic.{_≢_, inl, inr, ⊎-elim}
@@ -136,15 +137,15 @@ unfolding startOn allocBy freeOn arenaGate requestGate sound chunksOf walked wal
     strike
 fits-ledger = refl
 
--- ---- item 8: calls alone come to an arena in which the promise does not hold by two words
+-- ---- the bound of item 8's promise
 
--- in 18 words, block 8 has two free chunks of 4 words beside it
+-- calls alone come to an arena of 18 words in which block 8 has a free chunk of 4 words on each side
 abbrev combed : List Event
 combed =
     call (alloc first-fit 2) ∷ call (alloc first-fit 2) ∷ call (alloc first-fit 6) ∷ call (free 12) ∷ call (resize 4 2)
     ∷ call (alloc first-fit 6) ∷ call (free 4) ∷ call (free 16) ∷ call report ∷ []
 
--- 3 words have a need of 6
+-- 3 words have a need of 6: under no fit is there room for them
 abbrev beyond : List Event
 beyond = call (alloc first-fit 3) ∷ call (alloc best-fit 3) ∷ call (alloc (next-fit 9) 3) ∷ []
 

@@ -3,7 +3,7 @@ use mathlib.Core.Path.{_≡_, refl}
 use mathlib.Core.Logic.{inl, inr, ⊎-elim}
 use mathlib.Core.Bool.{Bool, true, false, cond}
 use mathlib.Core.List.{[], _∷_}
-use Prim.Native.Nat.{ℕ, _+_, _*_, _≤_, _<_}
+use Prim.Native.Nat.{ℕ, _+_, _-_, _*_, _≤_, _<_}
 use native.Mathlib.Nat.{add-mul, mul-le-mul-left, mul-le-mul-right}
 use native.Mathlib.Omega.{arith}
 use lib.Dec.{eqb}
@@ -30,7 +30,8 @@ use Rattle.ledger.proofs.Runs.{run-agrees}
 -- ---- few blocks, none of them long, by any library that keeps the promise
 
 -- so many blocks with at most so many granted words each
-held-most : (most : ℕ) (ledger : Ledger) → ((e : Entry) → Listed ledger e → e .granted ≤ most) → heldWords ledger ≤ length ledger * (headerWords + most)
+held-most : (most : ℕ) (ledger : Ledger) → ((e : Entry) → Listed ledger e → e .granted ≤ most)
+    → heldWords ledger ≤ length ledger * (headerWords + most)
 held-most most [] each = omega arith
 held-most most (e ∷ es) each =
     omega (arith, add-mul 1 (length es) (headerWords + most), each e (inl refl), held-most most es (λ f listed. each f (inr listed)))
@@ -70,7 +71,8 @@ module _ (library : Library) (known : Known library) (most : ℕ) where
   EntersSmall (regrants b) answer = Small (told answer)
   EntersSmall spares answer = Unit {0}
 
-  noted-small : (change : Effect) (answer : Answer) → EntersSmall change answer → (ledger : Ledger) → AllSmall ledger → AllSmall (noted change answer ledger)
+  noted-small : (change : Effect) (answer : Answer) → EntersSmall change answer → (ledger : Ledger) → AllSmall ledger
+      → AllSmall (noted change answer ledger)
   noted-small (renews blocks) answer new ledger old e l = new e l
   noted-small grants answer new ledger old e l = ⊎-elim (λ q. rw (← q) new) (old e) (listed-entered (told answer) ledger e l)
   noted-small (frees b) answer new ledger old e l = old e (listed-struck b ledger e l .1)
@@ -80,7 +82,8 @@ module _ (library : Library) (known : Known library) (most : ℕ) where
 
   module _ {n : ℕ} {s : State} (run : Run library n s) where
     -- a grant has fewer words over than are split off
-    enters-small : (event : Event) → EventAsksAtMost most event → Done (answerTo library event s) → EntersSmall (effect event) (answerTo library event s)
+    enters-small : (event : Event) → EventAsksAtMost most event → Done (answerTo library event s)
+        → EntersSmall (effect event) (answerTo library event s)
     enters-small (call start) few done = λ e l. absurd l
     enters-small (call (alloc fit w)) few done = omega (arith, few, known n s run .alloc-grants fit w done)
     enters-small (call (free b)) few done = tt
@@ -108,8 +111,8 @@ module _ (library : Library) (known : Known library) (most : ℕ) where
 
 pub plan : (library : Library) → Known library → EvenGrants library → PlanByLedger library → Plan library
 plan library known even by-ledger n s run most blocks few held enough fit w one short =
-    by-ledger n s run blocks (need most + 4) held (λ e l. omega (arith, run-small library known most run few e l, even n s run e l)) fit w one
-    (omega (arith, enough, mul-le-mul-right (blocks + 1) shorter))
-  where
-    shorter : tooShort w ≤ tooShort most
-    shorter = omega arith
+    let granted = need most + (leastSplit - 2) - headerWords in
+    let whole : headerWords + granted ≡ need most + (leastSplit - 2) = omega arith in
+    let shorter : tooShort w ≤ tooShort most = omega arith in
+    by-ledger n s run blocks granted held (λ e l. omega (arith, run-small library known most run few e l, even n s run e l)) fit w one
+    (rw whole (omega (arith, enough, mul-le-mul-right (blocks + 1) shorter)))

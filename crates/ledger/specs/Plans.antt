@@ -29,8 +29,8 @@ EventAsksAtMost most (store b i v) = Unit {0}
 module _ (library : Library) where
   -- ---- by the blocks that are held
 
-  -- in a state with at most `blocks` blocks, each with at most `most` granted words, one more is to be had, if the arena
-  -- has room for these and for what can lie scattered around them
+  -- in a state with at most `blocks` blocks, each with at most `most` granted words, one more is to be had, if the
+  -- arena has room for these and for what can lie scattered around them
   abbrev pub PlanByLedger : Type 0
   PlanByLedger =
       (n : ℕ) (s : State) → Run library n s → (blocks most : ℕ) → length (s .ledger) ≤ blocks

@@ -1,5 +1,5 @@
--- Item 8: when a request is sure to be done, whatever came before it; told by the report, and by the ledger alone. `n` is
--- the arena's number of words, `w` how many words are asked for, `scattered` the bound.
+-- Item 8: when a request is sure to be done, whatever came before it; told by the report, and by the ledger alone. `n`
+-- is the arena's number of words, `w` how many words are asked for, `scattered` the bound.
 use Prim.Native.Nat.{ℕ, _+_, _-_, _*_, _≤_, _<_}
 use mathlib.Core.Path.{_≡_}
 use mathlib.Core.Bool.{true}

@@ -13,8 +13,8 @@ use Rattle.rules.specs.Answers.{Outcome}
 use Rattle.rules.specs.Calls.{startOn, allocBy, allocOn, allocBestOn, allocNextOn, freeOn, resizeOn, relocateOn, reallocOn, sizeOn, reportOn}
 use Rattle.rules.specs.Calls.{writeOn, readOn}
 use Rattle.rules.specs.Stands.{NoGap}
-use Rattle.rules.specs.Causes.{LawfulRequest, StartRefused, AllocRefused, BlockRefused, ResizeRefused, RelocateRefused, ReallocRefused, ReportRefused}
-use Rattle.rules.specs.Causes.{WriteRefused, ReadRefused}
+use Rattle.rules.specs.Causes.{StartRefused, AllocRefused, BlockRefused, ResizeRefused, RelocateRefused, ReallocRefused, ReportRefused}
+use Rattle.rules.specs.Causes.{LawfulRequest, WriteRefused, ReadRefused}
 use Rattle.rules.specs.Behaves.{Behaves}
 use Rattle.rules.specs.Fits.{Policy, firstFit, bestFit, nextFit}
 use Rattle.rules.specs.Picks.{Fitting}

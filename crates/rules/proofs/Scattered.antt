@@ -2,7 +2,7 @@
 -- wherever more words are free than can lie in so many chunks that are too short for it.
 use mathlib.Core.Path.{_≡_, refl}
 use mathlib.Core.Bool.{true, false, true≢false}
-use mathlib.Core.List.{List, [], _∷_, _++_}
+use mathlib.Core.List.{List, [], _∷_}
 use Prim.Native.Nat.{ℕ, _+_, _*_, _%_, _≤_, _<_}
 use native.Mathlib.Nat.{mul-add, mul-le-mul-left, le-mul-of-pos-right}
 use native.Mathlib.Omega.{arith}
