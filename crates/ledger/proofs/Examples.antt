@@ -140,20 +140,20 @@ fits-ledger = refl
 -- ---- the bound of item 8's promise
 
 -- calls alone come to an arena of 18 words in which block 8 has a free chunk of 4 words on each side
-abbrev combed : List Event
+abbrev combed : List Call
 combed =
-    call (alloc first-fit 2) ∷ call (alloc first-fit 2) ∷ call (alloc first-fit 6) ∷ call (free 12) ∷ call (resize 4 2)
-    ∷ call (alloc first-fit 6) ∷ call (free 4) ∷ call (free 16) ∷ call report ∷ []
+    alloc first-fit 2 ∷ alloc first-fit 2 ∷ alloc first-fit 6 ∷ free 12 ∷ resize 4 2 ∷ alloc first-fit 6 ∷ free 4 ∷ free 16
+    ∷ report ∷ []
 
 -- 3 words have a need of 6: under no fit is there room for them
-abbrev beyond : List Event
-beyond = call (alloc first-fit 3) ∷ call (alloc best-fit 3) ∷ call (alloc (next-fit 9) 3) ∷ []
+abbrev beyond : List Call
+beyond = alloc first-fit 3 ∷ alloc best-fit 3 ∷ alloc (next-fit 9) 3 ∷ []
 
-abbrev smallRun : Run ours 18 (record { words = ours start (replicate 18 0) .words; ledger = [] })
-smallRun = begun (replicate 18 0) refl refl
+abbrev small : State
+small = record { words = ours start (replicate 18 0) .words; ledger = [] }
 
 pub combed-answers :
-    answers (play smallRun (combed ++ beyond) (tt, (tt, (tt, (tt, (tt, (tt, (tt, (tt, (tt, (tt, (tt, (tt, tt)))))))))))))
+    answers (play (begun (replicate 18 0) refl refl) (map call (combed ++ beyond)) (calls-allowed (combed ++ beyond) small))
     ≡ success []
     ∷ success (16 ∷ 2 ∷ []) ∷ success (12 ∷ 2 ∷ []) ∷ success (4 ∷ 6 ∷ []) ∷ success [] ∷ success (4 ∷ 2 ∷ [])
     ∷ success (8 ∷ 6 ∷ []) ∷ success [] ∷ success [] ∷ success (scattered 3 1 ∷ 2 ∷ 1 ∷ 2 ∷ [])
