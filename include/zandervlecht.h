@@ -36,9 +36,10 @@
  * no to the same requests, and they cut and answer alike. What zv_relocate, zv_realloc and zv_batch grant is of the
  * first fit. The page docs/FITS.md shows the three side by side.
  *
- * When a request is sure. Whatever was granted and freed before, a new block of n words is granted, by each of the
- * three fits, where the free words that zv_report answers are more than n, rounded up to even, times one more than its
- * live blocks. The page docs/BOARD.md has an example, and a table of how many blocks are always to be had.
+ * When a request is sure. Whatever was granted and freed before: a new block of n words, from 1 to four less than the
+ * arena has, is granted by each of the three fits where the free words that zv_report answers are more than n, rounded
+ * up to even, times one more than its live blocks. The page docs/BOARD.md has an example, and a table of how many
+ * blocks are always to be had.
  *
  * A picture is an arena as text, in lines of hexadecimal digits, each ended by LF; docs/BOARD.md shows one. The first
  * line has the number of words, and each other line eight of them, the last what is left. A line takes seven bytes and,

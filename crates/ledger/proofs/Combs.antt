@@ -24,18 +24,18 @@ use Rattle.rules.specs.Rules.{freeWords, widest, liveBlocks}
 use Rattle.rules.specs.Stands.{NoGap}
 use Rattle.rules.specs.Pictures.{pictureOf}
 use Rattle.rules.specs.Calls.{readOn}
-use Rattle.rules.specs.Scattered.{tooShort, scattered}
-use Rattle.rules.specs.Fits.{Policies, first-fit}
+use Rattle.rules.specs.Scattered.{mostTooShort, scattered}
+use Rattle.rules.specs.Fits.{Fit, Policies}
 use Rattle.rules.specs.Picks.{AllFitting}
-use Rattle.rules.specs.Libraries.{Library, read, libraryBy}
+use Rattle.rules.specs.Libraries.{alloc, read, Library, libraryBy}
 use Rattle.rules.proofs.ReportCounts.{report-answers}
 use Rattle.rules.proofs.Largest.{widest-least}
 use Rattle.rules.proofs.Saying.{picture-says}
 use Rattle.rules.proofs.PictureCalls.{reads-sound}
 use Rattle.rules.proofs.Calls.{alloc-by-behaves}
 use Rattle.ledger.specs.Events.{call}
-use Rattle.ledger.specs.Runs.{State, after, arrived}
-use Rattle.ledger.specs.Promises.{reported, Promise, Refusing, BestOfItsKind}
+use Rattle.ledger.specs.Runs.{State, reported, after, Run, arrived}
+use Rattle.ledger.specs.Promises.{DoneAbove, Refusing, BestOfItsKind}
 
 -- ---- the chunks
 
@@ -83,21 +83,21 @@ module _ (n w blocks : ℕ) (l : lawful n ≡ true) (three : 3 ≤ w) (fits : co
   over = n - controlWords - suc blocks * leastSize - scattered w (suc blocks)
 
   abbrev chunks : List Chunk
-  chunks = comb (tooShort w) over (suc blocks)
+  chunks = comb (mostTooShort w) over (suc blocks)
 
   chunks-lawful : Lawful n chunks
   chunks-lawful =
       let b = lawful-bounds n l in
-      let even : tooShort w % 2 ≡ 0 = omega arith in
-      let all = even-times (tooShort w) even (suc blocks + 1) in
-      let one-more = mul-add (tooShort w) 1 (blocks + 1) in
+      let even : mostTooShort w % 2 ≡ 0 = omega arith in
+      let all = even-times (mostTooShort w) even (suc blocks + 1) in
+      let one-more = mul-add (mostTooShort w) 1 (blocks + 1) in
       record {
         even = b .0;
         least = b .1;
         most = b .2;
-        sizes = comb-sizes (tooShort w) over (suc blocks) even (omega arith) (omega (arith, b, all));
-        spaced = comb-spaced (tooShort w) over (suc blocks);
-        fills = omega (arith, one-more, comb-total (tooShort w) blocks);
+        sizes = comb-sizes (mostTooShort w) over (suc blocks) even (omega arith) (omega (arith, b, all));
+        spaced = comb-spaced (mostTooShort w) over (suc blocks);
+        fills = omega (arith, one-more, comb-total (mostTooShort w) blocks);
       }
 
   abbrev zeros : List ℕ
@@ -124,7 +124,7 @@ module _ (n w blocks : ℕ) (l : lawful n ≡ true) (three : 3 ≤ w) (fits : co
   -- no free chunk has the need
   arena-full : NoGap arena (need w)
   arena-full pre s post (same, enough) =
-      let most : widest (pre ++ free s ∷ post) ≡ tooShort w = ap widest (sym same ∙ arena-chunks) ∙ comb-widest (tooShort w) over (suc blocks) in
+      let most : widest (pre ++ free s ∷ post) ≡ mostTooShort w = ap widest (sym same ∙ arena-chunks) ∙ comb-widest (mostTooShort w) over (suc blocks) in
       omega (arith, most, widest-least pre s post, enough)
 
   module _ (policies : Policies) (fitting : AllFitting policies) where
@@ -149,8 +149,8 @@ module _ (n w blocks : ℕ) (l : lawful n ≡ true) (three : 3 ≤ w) (fits : co
         record {
           state = after (libraryBy policies) (call (read text)) before;
           run = arrived text zeros zeros-long (ap (λ (outcome : Outcome). outcome .answer .code) reads);
-          blocks-are = rw (left, report-answers arena arena-sound, arena-chunks) (comb-blocks (tooShort w) over (suc blocks));
-          words-are = rw (left, report-answers arena arena-sound, arena-chunks) (comb-words (tooShort w) over (suc blocks));
+          blocks-are = rw (left, report-answers arena arena-sound, arena-chunks) (comb-blocks (mostTooShort w) over (suc blocks));
+          words-are = rw (left, report-answers arena arena-sound, arena-chunks) (comb-words (mostTooShort w) over (suc blocks));
           no-room = λ fit. rw left
               (alloc-by-behaves arena (policies fit) (fitting fit) w .refused NoRoom .1
               (arena-sound, ((omega arith, omega (arith, arena-long, fits)), arena-full)));
@@ -162,11 +162,12 @@ best-of-its-kind policies fitting n w (suc blocks) l three one fits = refusing n
 
 -- ---- so no smaller bound would do
 
--- a promise by another bound has one that is at least as large
-pub least-bound : (library : Library) → BestOfItsKind library → (bound : ℕ → ℕ → ℕ) → Promise library bound
+-- whatever bound an alloc under some fit is sure above, it is no smaller
+pub least-bound : (library : Library) → BestOfItsKind library → (bound : ℕ → ℕ → ℕ) (fit : Fit)
+    → ((n : ℕ) (s : State) → Run library n s → DoneAbove library bound s (alloc fit))
     → (n w blocks : ℕ) → lawful n ≡ true → 3 ≤ w → 1 ≤ blocks → controlWords + blocks * leastSize + scattered w blocks ≤ n
     → scattered w blocks ≤ bound w blocks
-least-bound library best bound kept n w blocks l three one fits = go (leb (scattered w blocks) (bound w blocks)) refl
+least-bound library best bound fit kept n w blocks l three one fits = go (leb (scattered w blocks) (bound w blocks)) refl
   where
     r : Refusing library n w blocks (scattered w blocks)
     r = best n w blocks l three one fits
@@ -175,5 +176,5 @@ least-bound library best bound kept n w blocks l three one fits = go (leb (scatt
     go true is = leb-true _ _ is
     go false is =
         let more : bound w (liveBlocksIn (reported library (r .state))) < freeWordsIn (reported library (r .state)) =
-        rw (r .blocks-are, r .words-are) (leb-false _ _ is) in
-        absurd (omega (arith, r .no-room first-fit, kept .alloc-sure n (r .state) (r .run) first-fit w (omega arith) more))
+        rw (r .blocks-are, r .words-are) (leb-false (scattered w blocks) (bound w blocks) is) in
+        absurd (omega (arith, r .no-room fit, kept n (r .state) (r .run) w (omega arith) more))

@@ -141,9 +141,7 @@ fits-ledger = refl
 
 -- calls alone come to an arena of 18 words in which block 8 has a free chunk of 4 words on each side
 abbrev combed : List Call
-combed =
-    alloc first-fit 2 ∷ alloc first-fit 2 ∷ alloc first-fit 6 ∷ free 12 ∷ resize 4 2 ∷ alloc first-fit 6 ∷ free 4 ∷ free 16
-    ∷ report ∷ []
+combed = alloc first-fit 14 ∷ resize 4 2 ∷ alloc first-fit 2 ∷ alloc first-fit 2 ∷ free 4 ∷ free 16 ∷ report ∷ []
 
 -- 3 words have a need of 6: under no fit is there room for them
 abbrev beyond : List Call
@@ -155,8 +153,8 @@ small = record { words = ours start (replicate 18 0) .words; ledger = [] }
 pub combed-answers :
     answers (play (begun (replicate 18 0) refl refl) (map call (combed ++ beyond)) (calls-allowed (combed ++ beyond) small))
     ≡ success []
-    ∷ success (16 ∷ 2 ∷ []) ∷ success (12 ∷ 2 ∷ []) ∷ success (4 ∷ 6 ∷ []) ∷ success [] ∷ success (4 ∷ 2 ∷ [])
-    ∷ success (8 ∷ 6 ∷ []) ∷ success [] ∷ success [] ∷ success (scattered 3 1 ∷ 2 ∷ 1 ∷ 2 ∷ [])
+    ∷ success (4 ∷ 14 ∷ []) ∷ success (4 ∷ 2 ∷ []) ∷ success (16 ∷ 2 ∷ []) ∷ success (8 ∷ 6 ∷ []) ∷ success [] ∷ success []
+    ∷ success (scattered 3 1 ∷ 2 ∷ 1 ∷ 2 ∷ [])
     ∷ refusal 2 NoRoom ∷ refusal 2 NoRoom ∷ refusal 2 NoRoom ∷ []
 unfolding startOn allocBy freeOn regrantBy reportOn arenaGate requestGate sound chunksOf walked walkFrom walk meet lowest bestFit joined written write
     header enter strike

@@ -11,7 +11,7 @@ use lib.ListN.{length}
 use borrow.Author.Tests.{eqb-true}
 use Rattle.layout.specs.Numbers.{headerWords, leastSplit, need}
 use Rattle.rules.specs.Answers.{Answer}
-use Rattle.rules.specs.Scattered.{tooShort, scattered}
+use Rattle.rules.specs.Scattered.{mostTooShort, scattered}
 use Rattle.rules.specs.Libraries.{start, alloc, free, resize, relocate, realloc, size, view, report, write, read, Library, libraryBy}
 use Rattle.rules.specs.Fits.{Policies}
 use Rattle.rules.specs.Picks.{AllFitting}
@@ -41,7 +41,7 @@ pub plan-by-ledger : (library : Library) → PromiseByLedger library → PlanByL
 plan-by-ledger library by-ledger n s run blocks most few each fit w one enough =
     let held = held-most most (s .ledger) each in
     let times : length (s .ledger) * (headerWords + most) ≤ blocks * (headerWords + most) = mul-le-mul-right (headerWords + most) few in
-    let fewer : scattered w (length (s .ledger)) ≤ scattered w blocks = mul-le-mul-left (tooShort w) (omega (arith, few)) in
+    let fewer : scattered w (length (s .ledger)) ≤ scattered w blocks = mul-le-mul-left (mostTooShort w) (omega (arith, few)) in
     by-ledger n s run fit w one (omega (arith, held, times, fewer, enough))
 
 -- ---- our grants are even, since sizes are
@@ -63,7 +63,7 @@ module _ (library : Library) (known : Known library) (most : ℕ) where
   abbrev AllSmall : Ledger → Type 0
   AllSmall ledger = (e : Entry) → Listed ledger e → Small e
 
-  -- what an event that is done enters is
+  -- what an event that is done enters in the ledger is so short
   abbrev EntersSmall : Effect → Answer → Type 0
   EntersSmall (renews blocks) answer = AllSmall blocks
   EntersSmall grants answer = Small (told answer)
@@ -113,6 +113,6 @@ pub plan : (library : Library) → Known library → EvenGrants library → Plan
 plan library known even by-ledger n s run most blocks few held enough fit w one short =
     let granted = need most + (leastSplit - 2) - headerWords in
     let whole : headerWords + granted ≡ need most + (leastSplit - 2) = omega arith in
-    let shorter : tooShort w ≤ tooShort most = omega arith in
+    let shorter : mostTooShort w ≤ mostTooShort most = omega arith in
     by-ledger n s run blocks granted held (λ e l. omega (arith, run-small library known most run few e l, even n s run e l)) fit w one
     (rw whole (omega (arith, enough, mul-le-mul-right (blocks + 1) shorter)))

@@ -17,13 +17,13 @@ use Rattle.rules.proofs.ReportCounts.{report-answers}
 use Rattle.rules.proofs.Scattered as scattering
 use Rattle.ledger.specs.Ledger.{Entry, Done, Listed}
 use Rattle.ledger.specs.Gaps.{gaps, EachShorter}
-use Rattle.ledger.specs.Runs.{State, Run}
+use Rattle.ledger.specs.Runs.{State, reported, Run}
 use Rattle.ledger.specs.Demands.{Sums, Known}
-use Rattle.ledger.specs.Promises.{reported, FewFreeChunks, FreeChunksAreHoles, Promise, PromiseAsAsked, PromiseByLedger, LeastRequests}
+use Rattle.ledger.specs.Promises.{FewFreeChunks, FreeChunksAreHoles, Promise, PromiseAsAsked, PromiseByLedger, LeastRequests}
 use Rattle.ledger.proofs.Entries.{listed-split}
 use Rattle.ledger.proofs.WantOfRoom.{no-gap}
 use Rattle.ledger.proofs.Runs.{run-agrees}
-use Rattle.ledger.proofs.Demands.{room-for-alloc, room-for-relocate, room-for-realloc}
+use Rattle.ledger.proofs.Demands.{room-for-relocate, room-for-realloc}
 use Rattle.ledger.proofs.GapsLeft.{run-holes}
 
 -- ---- of our calls
@@ -53,7 +53,7 @@ module _ (policies : Policies) (fitting : AllFitting policies) where
 
     -- so a call that needs a gap has one
     alloc-done : (fit : Fit) → Done (libraryBy policies (alloc fit w) (s .words) .answer)
-    alloc-done fit = room-for-alloc policies fitting fit n s run w sure-request .done .1 sure-gap
+    alloc-done fit = scattering.sure-done (s .words) (run-sound run) w more (policies fit) (fitting fit) one
 
     module _ (e : Entry) (listed : Listed (s .ledger) e) where
       relocate-done : Done (libraryBy policies (relocate (e .block) w) (s .words) .answer)

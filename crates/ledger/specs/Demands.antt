@@ -21,7 +21,7 @@ use Rattle.rules.specs.Libraries.{Call, start, alloc, free, resize, relocate, r
 use Rattle.ledger.specs.Events.{Event, call}
 use Rattle.ledger.specs.Ledger.{Entry, Ledger, told, Done, Listed, Unlisted, begins, ends, heldWords}
 use Rattle.ledger.specs.Gaps.{gapFrom, gaps, EachShorter, holes, RoomShorter}
-use Rattle.ledger.specs.Runs.{State, Allowed, after, Run}
+use Rattle.ledger.specs.Runs.{State, Allowed, reported, after, Run}
 use Rattle.ledger.specs.BatchRuns.{afterBatch, afterSingly}
 use Rattle.ledger.specs.Holders.{wordAfter, numberAfter, Ended, StoredLast}
 use Rattle.ledger.specs.Promises.{Promises}
@@ -92,7 +92,7 @@ module _ (library : Library) where
   -- "The reported free words, plus each ledger block's granted words and its two header words, make the arena less its
   -- two control words."
   abbrev pub Sums : Type 0
-  Sums = (n : ℕ) (s : State) → Run library n s → freeWordsIn (library report (s .words) .answer) + heldWords (s .ledger) ≡ n - controlWords
+  Sums = (n : ℕ) (s : State) → Run library n s → freeWordsIn (reported library s) + heldWords (s .ledger) ≡ n - controlWords
 
   -- "A lawful alloc is refused for want of room exactly when every gap left by ledger blocks and their headers is
   -- shorter than its need;" it is lawful where no reason before 6 applies: 4 and 5 do not by `LawfulRequest`, and in a

@@ -30,7 +30,7 @@ module _ (library : Library) where
   -- ---- by the blocks that are held
 
   -- in a state with at most `blocks` blocks, each with at most `most` granted words, one more is to be had, if the
-  -- arena has room for these and for what can lie scattered around them
+  -- arena has more words than these take and can lie scattered around them
   abbrev pub PlanByLedger : Type 0
   PlanByLedger =
       (n : ℕ) (s : State) → Run library n s → (blocks most : ℕ) → length (s .ledger) ≤ blocks
@@ -51,8 +51,8 @@ module _ (library : Library) where
   AsksAtMost most (arrived text a long done) = ⊥
   AsksAtMost most (next {s} run event allowed) = AsksAtMost most run × (Done (answerTo library event s) → EventAsksAtMost most event)
 
-  -- then, in a state with at most `blocks` blocks, one more of up to so many words is to be had: a block takes at most
-  -- its need and what is too little to be split off
+  -- then, in a state with at most `blocks` blocks, one more of up to so many words is to be had, if the arena has more
+  -- words than these take, each its need and what is too little to be split off, and can lie scattered around them
   abbrev pub Plan : Type 0
   Plan =
       (n : ℕ) (s : State) (run : Run library n s) (most blocks : ℕ) → AsksAtMost most run → length (s .ledger) ≤ blocks

@@ -7,33 +7,29 @@ use lib.ListN.{length}
 use Rattle.layout.specs.Numbers.{controlWords, leastSize, lawful, need}
 use Rattle.layout.specs.Reasons.{number}
 use Rattle.layout.specs.declared.Reason.the-variants.{NoRoom}
-use Rattle.rules.specs.Answers.{Answer, freeWordsIn, liveBlocksIn, freeChunksIn}
+use Rattle.rules.specs.Answers.{freeWordsIn, liveBlocksIn, freeChunksIn}
 use Rattle.rules.specs.Causes.{LawfulRequest}
 use Rattle.rules.specs.Scattered.{scattered}
 use Rattle.rules.specs.Fits.{Fit}
-use Rattle.rules.specs.Libraries.{Call, alloc, relocate, realloc, report, Library}
+use Rattle.rules.specs.Libraries.{Call, alloc, relocate, realloc, Library}
 use Rattle.ledger.specs.Ledger.{Entry, Ledger, Done, Listed, heldWords}
 use Rattle.ledger.specs.Gaps.{gaps, holes}
-use Rattle.ledger.specs.Runs.{State, Run}
+use Rattle.ledger.specs.Runs.{State, reported, Run}
 
 -- the words that no block of the ledger holds, nor its header
 abbrev pub unheldWords : ℕ → Ledger → ℕ
 unheldWords n ledger = n - controlWords - heldWords ledger
 
 module _ (library : Library) where
-  -- what the report answers in a state
-  abbrev pub reported : State → Answer
-  reported s = library report (s .words) .answer
-
   -- ---- how many free chunks there are
 
   -- "the free chunks number at most the live blocks plus one"
   abbrev pub FewFreeChunks : Type 0
-  FewFreeChunks = (n : ℕ) (s : State) → Run library n s → freeChunksIn (reported s) ≤ liveBlocksIn (reported s) + 1
+  FewFreeChunks = (n : ℕ) (s : State) → Run library n s → freeChunksIn (reported library s) ≤ liveBlocksIn (reported library s) + 1
 
-  -- they are the gaps of the ledger that have words
+  -- there are as many as gaps of the ledger that have words
   abbrev pub FreeChunksAreHoles : Type 0
-  FreeChunksAreHoles = (n : ℕ) (s : State) → Run library n s → freeChunksIn (reported s) ≡ holes (gaps n (s .ledger))
+  FreeChunksAreHoles = (n : ℕ) (s : State) → Run library n s → freeChunksIn (reported library s) ≡ holes (gaps n (s .ledger))
 
   -- ---- the promise
 
@@ -41,7 +37,7 @@ module _ (library : Library) where
   -- and how many blocks are live
   abbrev pub DoneAbove : (bound : ℕ → ℕ → ℕ) → State → (ℕ → Call) → Type 0
   DoneAbove bound s calls =
-      (w : ℕ) → 1 ≤ w → bound w (liveBlocksIn (reported s)) < freeWordsIn (reported s) → Done (library (calls w) (s .words) .answer)
+      (w : ℕ) → 1 ≤ w → bound w (liveBlocksIn (reported library s)) < freeWordsIn (reported library s) → Done (library (calls w) (s .words) .answer)
 
   -- so in every run: an alloc under each of the three fits, and a relocate and a realloc of a block of the ledger
   pub record Promise (bound : ℕ → ℕ → ℕ) : Type 0 where
@@ -54,7 +50,7 @@ module _ (library : Library) where
   abbrev pub PromiseAsAsked : Type 0
   PromiseAsAsked =
       (n : ℕ) (s : State) → Run library n s → (fit : Fit) (w : ℕ) → LawfulRequest n w
-      → need w * (liveBlocksIn (reported s) + 1) ≤ freeWordsIn (reported s)
+      → need w * (liveBlocksIn (reported library s) + 1) ≤ freeWordsIn (reported library s)
       → Done (library (alloc fit w) (s .words) .answer)
 
   -- the promise for whoever keeps a ledger and asks for no report
@@ -66,7 +62,7 @@ module _ (library : Library) where
   -- a request that needs no more than the least chunk has is done wherever any word is free
   abbrev pub LeastRequests : Type 0
   LeastRequests =
-      (n : ℕ) (s : State) → Run library n s → (fit : Fit) (w : ℕ) → 1 ≤ w → need w ≤ leastSize → 0 < freeWordsIn (reported s)
+      (n : ℕ) (s : State) → Run library n s → (fit : Fit) (w : ℕ) → 1 ≤ w → need w ≤ leastSize → 0 < freeWordsIn (reported library s)
       → Done (library (alloc fit w) (s .words) .answer)
 
   -- ---- it is the best of its kind
@@ -76,8 +72,8 @@ module _ (library : Library) where
   pub record Refusing (n w blocks words : ℕ) : Type 0 where
     pub state : State
     pub run : Run library n state
-    pub blocks-are : liveBlocksIn (reported state) ≡ blocks
-    pub words-are : freeWordsIn (reported state) ≡ words
+    pub blocks-are : liveBlocksIn (reported library state) ≡ blocks
+    pub words-are : freeWordsIn (reported library state) ≡ words
     pub no-room : (fit : Fit) → library (alloc fit w) (state .words) .answer .code ≡ number NoRoom
 
   -- there is one with just as many free words as the promise asks for more than, for every request of 3 words or more,

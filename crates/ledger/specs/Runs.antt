@@ -6,7 +6,7 @@ use mathlib.Core.List.{List, []}
 use lib.ListN.{length}
 use Rattle.layout.specs.Numbers.{wordValues, lawful}
 use Rattle.rules.specs.Answers.{Answer}
-use Rattle.rules.specs.Libraries.{start, read, Library}
+use Rattle.rules.specs.Libraries.{start, report, read, Library}
 use Rattle.ledger.specs.Events.{Event, call, store, happens}
 use Rattle.ledger.specs.Ledger.{Ledger, ledgerAfter, Done, Held}
 
@@ -21,6 +21,10 @@ Allowed (call c) ledger = Unit {0}
 Allowed (store b i v) ledger = Held ledger b i × (v < wordValues)
 
 module _ (library : Library) where
+  -- what the report answers in a state
+  abbrev pub reported : State → Answer
+  reported s = library report (s .words) .answer
+
   abbrev pub answerTo : Event → State → Answer
   answerTo event s = happens library event (s .words) .answer
 

@@ -61,7 +61,7 @@ module _ (a : List ℕ) where
       alloc-by-behaves policy fitting n .done .1
       (only-last a _ _ _ _ _ e (λ h. h) (λ z. omega arith) (λ m. omega arith) ⊥ (λ h. gap (h .1)) (λ h. h))
 
-  -- under two of them it is refused in the same cases and for the same reasons
+  -- under two fitting policies it is refused in the same cases and for the same reasons
   pub codes-agree : (policy policy′ : Policy) → Fitting policy → Fitting policy′ → (n : ℕ)
       → allocBy policy a n .answer .code ≡ allocBy policy′ a n .answer .code
   codes-agree policy policy′ fitting fitting′ n = go (alloc-by-case policy fitting a n) refl

@@ -11,7 +11,7 @@ use Rattle.layout.specs.Walk.{sound, chunksOf}
 use Rattle.layout.proofs.Holds.{Sizes}
 use Rattle.layout.proofs.Round.{sound-chunks}
 use Rattle.layout.proofs.Reasons.{number-positive}
-use Rattle.rules.specs.Answers.{largestIn, Outcome}
+use Rattle.rules.specs.Answers.{largestRequestIn, Outcome}
 use Rattle.rules.specs.Rules.{widest}
 use Rattle.rules.specs.Fits.{Policy}
 use Rattle.rules.specs.Picks.{Fitting}
@@ -45,7 +45,7 @@ widest-below (live s ∷ ks) words one f = widest-below ks words one (free-short
 
 -- the largest request that report answers
 abbrev pub largest : List ℕ → ℕ
-largest a = largestIn (reportOn a .answer)
+largest a = largestRequestIn (reportOn a .answer)
 
 module _ (a : List ℕ) (e : sound a ≡ true) where
   pub largest-is : largest a ≡ widest (chunksOf a) - headerWords

@@ -16,7 +16,7 @@ use Rattle.rules.specs.Answers.{freeWordsIn, liveBlocksIn, freeChunksIn}
 use Rattle.rules.specs.Rules.{freeWords, liveBlocks, freeChunks}
 use Rattle.rules.specs.Stands.{NoGap}
 use Rattle.rules.specs.Causes.{LawfulRequest}
-use Rattle.rules.specs.Scattered.{tooShort, scattered}
+use Rattle.rules.specs.Scattered.{mostTooShort, scattered}
 use Rattle.rules.specs.Fits.{Policy}
 use Rattle.rules.specs.Picks.{Fitting}
 use Rattle.rules.specs.Calls.{allocBy, reportOn}
@@ -72,15 +72,15 @@ module _ (a : List ℕ) (e : sound a ≡ true) where
 
   module _ (w : ℕ) (more : scattered w (liveBlocksIn (reportOn a .answer)) < freeWordsIn (reportOn a .answer)) where
     pub sure-gap : NoGap a (need w) → ⊥
-    sure-gap = a-gap (need w) (tooShort w) (λ s even least short. omega arith) more
+    sure-gap = a-gap (need w) (mostTooShort w) (λ s even least short. omega arith) more
 
     -- the arena is large enough for it
     pub sure-lawful : 1 ≤ w → LawfulRequest (length a) w
     sure-lawful one =
         let law = sound-chunks a e .law in
         let ks = chunksOf a in
-        let many : tooShort w * (liveBlocks ks + 1) < freeWords ks = rw (report-answers a e) at more in
-        let once : tooShort w ≤ tooShort w * (liveBlocks ks + 1) = le-mul-of-pos-right (tooShort w) (omega arith) in
+        let many : mostTooShort w * (liveBlocks ks + 1) < freeWords ks = rw (report-answers a e) at more in
+        let once : mostTooShort w ≤ mostTooShort w * (liveBlocks ks + 1) = le-mul-of-pos-right (mostTooShort w) (omega arith) in
         (one, omega (arith, many, once, counts-within ks (law .sizes) .words-fit, law .fills, law .even))
 
     pub sure-done : (policy : Policy) → Fitting policy → 1 ≤ w → allocBy policy a w .answer .code ≡ 0

@@ -38,8 +38,8 @@ grantedField (block ∷ granted ∷ rest) = granted
 abbrev pub freeWordsIn : Answer → ℕ
 freeWordsIn answer = getD (answer .values) 0 0
 
-abbrev pub largestIn : Answer → ℕ
-largestIn answer = getD (answer .values) 1 0
+abbrev pub largestRequestIn : Answer → ℕ
+largestRequestIn answer = getD (answer .values) 1 0
 
 abbrev pub liveBlocksIn : Answer → ℕ
 liveBlocksIn answer = getD (answer .values) 2 0
