@@ -36,8 +36,8 @@
  * no to the same requests, and they cut and answer alike. What zv_relocate, zv_realloc and zv_batch grant is of the
  * first fit. The page docs/FITS.md shows the three side by side.
  *
- * When a request is sure. Whatever was granted and freed before: a new block of n words, from 1 to four less than the
- * arena has, is granted by each of the three fits where the free words that zv_report answers are more than n, rounded
+ * When a request is sure. Whatever was granted and freed before: a request for n words that is neither ZV_ZERO nor
+ * ZV_TOO_LARGE is done, by each of the three fits, where the free words that zv_report answers are more than n, rounded
  * up to even, times one more than its live blocks. The page docs/BOARD.md has an example, and a table of how many
  * blocks are always to be had.
  *
