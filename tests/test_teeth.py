@@ -7,9 +7,9 @@ test_teeth_c.py.
 import glob
 import os
 
-from support import batches, cases, driver, ledger, lines, model, picture_cases, pictures, programs, spoiling, teeth
+from support import batches, cases, driver, ledger, lines, looks, model, picture_cases, pictures, programs, teeth
 from support import spoiled_batch, spoiled_c, spoiled_desk, spoiled_drawing, spoiled_fits, spoiled_headers
-from support import spoiled_not_run, spoiled_pages
+from support import spoiled_not_run, spoiled_pages, spoiling
 from support.comparing import compare_answers, compare_replies, compare_together
 
 LINES = b"010020\n020005\n020001\n05\n03001A\n0Z\n"
@@ -24,8 +24,9 @@ BETWEEN_LIVE = [16, 2, 6, 0, 71, 72, 73, 74, 4, 4294967295, 75, 76, 4, 429496729
 THREE_GAPS = [26, 2, 6, 12, 71, 72, 73, 74, 4, 4294967295, 75, 76, 4, 20, 77, 78, 4, 4294967295, 79, 80, 6, 0, 81, 82,
               83, 84]
 
-# What the ledger of the first of these arenas has.
+# What the ledger of the first of these arenas has, and a look at that arena: requests for two words, all of them sure.
 HELD = {4: [77, 78]}
+LOOK = looks.look_at(SOUND, HELD, [cases.Case(call, 4, 2, SOUND) for call in (*cases.FITS, *looks.MAY_MOVE)])
 
 
 def complains(comparer, *arguments):
@@ -134,6 +135,31 @@ def judged_notes():
         yield f"by the ledger: no {what}", not complains(ledger.noted, HELD, case, cases.answer_to(case))
 
 
+def answered(place, **parts):
+    """The true answers to the look, of which one has other parts."""
+    return [*LOOK.answers[:place], LOOK.answers[place]._replace(**parts), *LOOK.answers[place + 1:]]
+
+
+def wrong_looks():
+    """The look, or another one at the same arena, and answers to it that are not as promised."""
+    yield "another sum of words", LOOK, answered(0, fields=(8, 4, 1, 1))
+    yield "a report that is refused", LOOK, answered(0, code=model.DAMAGED)
+    yield "another report than is due", LOOK._replace(report=(8, 4, 1, 1)), LOOK.answers
+    yield "another code than is due", LOOK._replace(due=model.NO_ROOM), LOOK.answers
+    for place, case in enumerate(LOOK.asked[1:], 1):
+        name = cases.name_of(case.call)
+        yield f"a sure request refused by {name}", LOOK, answered(place, code=model.NO_ROOM)
+        yield f"ten words granted for two by {name}", LOOK, answered(place, fields=(8, 10))
+
+
+def judged_looks():
+    """Whether the promise complains about each wrong answer, and takes the true ones."""
+    for what, look, wrong in wrong_looks():
+        yield f"by the promise: {what}", complains(looks.judge, [look], b"".join(map(cases.reply_bytes, wrong)))
+    true = b"".join(map(cases.reply_bytes, LOOK.answers))
+    yield "by the promise: the true answers", not complains(looks.judge, [LOOK], true)
+
+
 def judged_answers(form, asked):
     """Whether each wrong output for these cases of a form is seen, and the true one taken."""
     answers = [form.answer_to(case) for case in asked]
@@ -154,7 +180,7 @@ def check_comparers():
     for three, true in (together(4, 3, SOUND), together(10, 3, BETWEEN_LIVE), together(13, 2, THREE_GAPS, cases.FITS),
                         together(21, 2, THREE_GAPS, cases.FITS), together(13, 5, THREE_GAPS, cases.FITS)):
         tried += [("the true replies together", not complains(compare_together, three, b"".join(true)))]
-    tried += judged_notes()
+    tried += [*judged_notes(), *judged_looks()]
     tried += [("a board that keeps other chunks than its words have", complains(keep_other_chunks))]
     wrong_about = [what for what, right in tried if not right]
     if wrong_about:

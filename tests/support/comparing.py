@@ -111,16 +111,17 @@ def run_lines(command, text, pieces=None, expected=None):
     compare_replies(text, wanted, got)
 
 
-def run_cases(command, asked, answers, rest=b"", form=cases):
+def run_cases(command, asked, answers, rest=b"", form=cases, judge=lambda got: None):
     """Runs the program on cases, followed by bytes that are no case, and compares its replies with the answers.
 
-    Gives the replies.
+    Gives the replies, of which a judge may complain before they are compared.
     """
     text = b"".join(map(form.case_bytes, asked)) + rest
     try:
         got = programs.output_of(command, [text])
     except programs.ProgramFailed as failure:
         raise Difference(f"{failure} (after {len(failure.output)} bytes of replies)", text) from failure
+    judge(got)
     compare_answers(asked, answers, got, form)
     if form is cases:
         compare_together(asked, got)

@@ -124,6 +124,37 @@ def skip_small_gaps():
     see_only("alloc_rule", lambda gaps, need: [(gap, room) for gap, room in gaps if room >= 8])
 
 
+def skip_exact_gaps():
+    """Passes over free chunks that have exactly the need."""
+    see_only("alloc_rule", lambda gaps, need: [(gap, room) for gap, room in gaps if room != need])
+
+
+def every_fit_sees(seen):
+    """Each of the three fits sees no other gaps than `seen` leaves of them, given the need."""
+    for rule in ("alloc_rule", "alloc_best_rule", "alloc_next_rule"):
+        see_only(rule, seen)
+
+
+def keep_largest_gap():
+    """Never grants a word of the largest free chunk, under any fit."""
+    def others(gaps, need):
+        largest = max((room for gap, room in gaps), default=0)
+        return [(gap, room) for gap, room in gaps if room < largest]
+
+    every_fit_sees(others)
+
+
+def share_free_words():
+    """Refuses a need that is more than each free chunk would have if they all had as many words, under any fit."""
+    every_fit_sees(lambda gaps, need: gaps if need * len(gaps) <= sum(room for gap, room in gaps) else [])
+
+
+def need_two_more():
+    """Wants two words more than a request needs."""
+    true_need = model.need_of
+    model.need_of = lambda asked, length: true_need(asked, length) + 2
+
+
 def spoil_shrink(spoil):
     """Spoils the words once a block gave some to the gap right above it.
 
@@ -234,6 +265,20 @@ def copy_count_of_a_byte():
     copy_in_move(lambda granted, new_granted, asked: min(granted, new_granted) % 256)
 
 
+def move_elsewhere():
+    """Passes over the free chunks right below and right above the old block of a move."""
+    true_move = model.move_rule
+
+    def move_rule(lent, block, asked):
+        live, gaps = lent.chunks()
+        start, size = live[model.place_of(live, block)]
+        apart = model.Lent(lent.words)
+        apart.kept = live, [(gap, room) for gap, room in gaps if gap + room != start and gap != start + size]
+        return true_move(apart, block, asked)
+
+    model.move_rule = move_rule
+
+
 def stay_in_move():
     """Leaves the block of a move where it is, if it can stay there."""
     true_move = model.move_rule
@@ -320,18 +365,41 @@ def largest_with_header():
     count_in_report(header=0)
 
 
+def count_other_chunks(told):
+    """Reports what `told` makes of the live blocks and the free chunks."""
+    true_report = model.report_rule
+
+    def report_rule(lent):
+        (words, largest, *chunks), nothing = true_report(lent)
+        return (words, largest, *told(*chunks)), nothing
+
+    model.report_rule = report_rule
+
+
+def leave_last_gap():
+    """Counts the words of the last free chunk in a report, but not the chunk."""
+    count_other_chunks(lambda live, free: (live, max(free - 1, 0)))
+
+
+def leave_last_block():
+    """Does not count the last live block in a report."""
+    count_other_chunks(lambda live, free: (max(live - 1, 0), free))
+
+
 RULE_FAULTS = {"tail": cut_tail_of_two, "cut": cut_tail_in_place, "four": split_off_four, "six": split_off_six,
                "ten": grant_eight_over, "alloc": split_off_four_in_alloc, "best": split_off_four_in_best,
                "next": split_off_four_in_next, "grow": split_off_four_in_grow, "shrink": split_off_four_in_shrink,
                "keeps": keep_beside_gap, "room": take_whole_room, "small": refuse_small_chunks,
-               "skips": skip_small_gaps, "link": leave_link, "wipe": clear_old_header, "believe": believe_words_before,
-               "clear": clear_swallowed_header, "early": free_before_move, "less": copy_one_word_less,
-               "all": copy_all_old_words, "asked": copy_words_asked, "byte": copy_count_of_a_byte,
-               "stays": stay_in_move, "moves": move_in_resize, "never": never_move, "order": would_move_first,
-               "lacks": no_room_to_resize, "stores": store_size_early}
+               "skips": skip_small_gaps, "exact": skip_exact_gaps, "hoards": keep_largest_gap,
+               "shares": share_free_words, "needs": need_two_more, "link": leave_link, "wipe": clear_old_header,
+               "believe": believe_words_before, "clear": clear_swallowed_header, "early": free_before_move,
+               "less": copy_one_word_less, "all": copy_all_old_words, "asked": copy_words_asked,
+               "byte": copy_count_of_a_byte, "elsewhere": move_elsewhere, "stays": stay_in_move,
+               "moves": move_in_resize, "never": never_move, "order": would_move_first, "lacks": no_room_to_resize,
+               "stores": store_size_early}
 
 REPORT_FAULTS = {"lastlink": leave_list_early, "manylinks": leave_long_list, "last": last_for_largest,
-                 "header": largest_with_header}
+                 "header": largest_with_header, "lastgap": leave_last_gap, "lastblock": leave_last_block}
 
 
 def board_replies(fault):

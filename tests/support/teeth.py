@@ -27,6 +27,11 @@ ANOTHER_FIT = ["lastequal", "pastrover", "inside", "backwards", "lacking", "past
 # What it can do wrong in any report. (A list followed for 255 links only, "manylinks", takes a longer list to be seen.)
 ANOTHER_COUNT = ["lastlink", "last", "header"]
 
+# What it can do wrong so that a sure request is refused: under first fit or any, under best fit, under next fit, and
+# where a block is to have another length.
+SURE_REFUSED = ["exact", "hoards", "needs", "skips", "small", "inexact", "noround", "notlowest", "atend", "aboveend",
+                "elsewhere", "never"]
+
 # A driver, how much it compares here, a program, and the faults of a stand-in for it that the driver has to see.
 Trial = namedtuple("Trial", "driver count program faults")
 
@@ -56,6 +61,11 @@ ARENAS = [
                                                  "next", "lowbits", "shut", "nextgate", "nextlinks", *ANOTHER_COUNT,
                                                  *OVER, *ANOTHER_LENGTH, *ANOTHER_FIT]),
     Trial("test_fit_runs", 2000, "cases", ["word", "togranted", "ownrover", "movebest", *ANOTHER_FIT]),
+    Trial("test_promise", 900, "cases", ["word", "missing", "ten", "lastgap", "lastblock", *ANOTHER_COUNT,
+                                         *SURE_REFUSED]),
+    Trial("test_combs", 1, "cases", ["word", "exact", "hoards", "shares", "lowestfits", "keeps", "manylinks",
+                                     "bestlinks", "nextlinks"]),
+    Trial("test_plans", 2000, "cases", ["word", "ten", "hoards", "needs", "elsewhere", "never"]),
 ]
 BATCHES = [Trial("test_batch", 12, "batch_cases", ["word", "missing", *BATCH_FAULTS])]
 PICTURES = [Trial("test_pictures", 300, "picture_cases", ["word", "missing", "extra", *PICTURE_FAULTS])]
