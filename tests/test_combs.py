@@ -156,9 +156,7 @@ def compare_combs(command, random):
 def compare(chosen):
     """All combs, one round after the other; the last line counts combs and calls."""
     random = Random(chosen.seed)
-    met = Counter()
-    while met["combs"] < chosen.count:
-        met += compare_combs(chosen.cases, random)
+    met = driver.met_in_rounds(lambda: compare_combs(chosen.cases, random), "combs", chosen.count)
     if chosen.count >= COMBS:
         driver.check_met(met, WANTED, 3, "combs")
     told = f"{met['combs']} combs refused at the bound, and granted with two words more"

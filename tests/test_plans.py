@@ -98,10 +98,8 @@ def compare(chosen):
     """The table, then runs for all cells, one round after the other; the last line counts calls and last blocks."""
     check_table(chosen.root)
     random = Random(chosen.seed)
-    met = Counter()
     turns = min(TURNS, chosen.count // len(CELLS) // CALLS_IN_TURN)
-    while met["calls"] < chosen.count:
-        met += compare_plans(chosen.cases, random, turns)
+    met = driver.met_in_rounds(lambda: compare_plans(chosen.cases, random, turns), "calls", chosen.count)
     if chosen.count >= CALLS:
         driver.check_met(met, CELLS, 3, "plans")
     full = sum(met[cell] for cell in CELLS)

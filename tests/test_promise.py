@@ -100,10 +100,8 @@ def told_of_own(met):
 def compare(chosen):
     """Runs of all lengths, one round after the other; the last line says how often the promise covers a request."""
     random = Random(chosen.seed)
-    met = Counter()
     turns = min(TURNS, chosen.count // len(LENGTHS) // CALLS_IN_TURN)
-    while met["calls"] < chosen.count:
-        met += compare_runs(chosen.cases, random, turns)
+    met = driver.met_in_rounds(lambda: compare_runs(chosen.cases, random, turns), "calls", chosen.count)
     if chosen.count >= CALLS:
         driver.check_met(met, WANTED, 3, "requests")
     return f"{met['calls']:,} calls compared; {told_of_own(met)}"

@@ -3,6 +3,7 @@
 import argparse
 import os
 import sys
+from collections import Counter
 
 from . import programs
 
@@ -38,6 +39,14 @@ def options(what, count, named=("board",), root=None):
     for name in named:
         setattr(chosen, name, programs.command_for(name, getattr(chosen, name)))
     return chosen
+
+
+def met_in_rounds(compare_round, what, count):
+    """What all rounds meet together: one comes after the other until so many of `what` are compared."""
+    met = Counter()
+    while met[what] < count:
+        met += compare_round()
+    return met
 
 
 def check_met(met, wanted, least, what):
