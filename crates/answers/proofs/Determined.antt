@@ -47,9 +47,9 @@ granted-injective (NotGranted w) (Block b g) e = absurd (success-or-refusal w (s
 granted-injective (NotGranted w) (NotGranted w′) e = ap NotGranted (number-injective w w′ (same-code e))
 
 pub sized-injective : (r r′ : Sized) → sizedNumbers r ≡ sizedNumbers r′ → r ≡ r′
-sized-injective (Words g) (Words g′) e = let v = same-values e in cc
-sized-injective (Words g) (NotSized w) e = absurd (success-or-refusal w (same-code e))
-sized-injective (NotSized w) (Words g) e = absurd (success-or-refusal w (same-code (sym e)))
+sized-injective (Words n g) (Words n′ g′) e = let v = same-values e in cc
+sized-injective (Words n g) (NotSized w) e = absurd (success-or-refusal w (same-code e))
+sized-injective (NotSized w) (Words n g) e = absurd (success-or-refusal w (same-code (sym e)))
 sized-injective (NotSized w) (NotSized w′) e = ap NotSized (number-injective w w′ (same-code e))
 
 pub reported-injective : (r r′ : Reported) → reportedNumbers r ≡ reportedNumbers r′ → r ≡ r′

@@ -26,7 +26,7 @@ granted-told (Block block granted) = refl
 granted-told (NotGranted why) = refl
 
 pub sized-told : (r : Sized) → answerIn (padded (sizedNumbers r)) ≡ sizedNumbers r
-sized-told (Words granted) = refl
+sized-told (Words asked granted) = refl
 sized-told (NotSized why) = refl
 
 pub reported-told : (r : Reported) → answerIn (padded (reportedNumbers r)) ≡ reportedNumbers r

@@ -21,8 +21,8 @@ grantedNumbers (Block block granted) = success (block ∷ granted ∷ [])
 grantedNumbers (NotGranted why) = refusal 2 why
 
 abbrev pub sizedNumbers : Sized → Answer
-sizedNumbers (Words granted) = success (granted ∷ [])
-sizedNumbers (NotSized why) = refusal 1 why
+sizedNumbers (Words asked granted) = success (asked ∷ granted ∷ [])
+sizedNumbers (NotSized why) = refusal 2 why
 
 abbrev pub reportedNumbers : Reported → Answer
 reportedNumbers (Counts freeWords largest liveBlocks freeChunks) = success (freeWords ∷ largest ∷ liveBlocks ∷ freeChunks ∷ [])

@@ -22,9 +22,9 @@ pub struct Roved {
     pub rover: u32,
 }
 
-// What size answers: the granted words.
+// What size answers: the words that were asked for, and those granted.
 pub enum Sized {
-    Words(u32),
+    Words { asked: u32, granted: u32 },
     Refused(Reason),
 }
 
@@ -96,12 +96,12 @@ pub fn sized_numbers(sized: Sized) -> Numbers
     ensures { λ r. ⌜ r ≡ padded (sizedNumbers sized) ⌝ }
 {
     match sized {
-        Sized::Words(granted) => Numbers {
+        Sized::Words { asked, granted } => Numbers {
             code: 0,
-            count: 1,
-            fields: [granted, 0, 0, 0],
+            count: 2,
+            fields: [asked, granted, 0, 0],
         },
-        Sized::Refused(why) => refusal_numbers(1, why),
+        Sized::Refused(why) => refusal_numbers(2, why),
     }
 }
 

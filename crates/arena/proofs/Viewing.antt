@@ -35,7 +35,7 @@ module _ (a : List ℕ) (b : ℕ) (sized : Sized) (answers : sizedNumbers sized 
       }
 
   -- the code's part of the arena: `words` words from word `from` on
-  module _ (granted from words : ℕ) (e : sized ≡ Words granted) (from-is : from ≡ b) (words-are : words ≡ granted) where
+  module _ (asked granted from words : ℕ) (e : sized ≡ Words asked granted) (from-is : from ≡ b) (words-are : words ≡ granted) where
     pub view-words : (place : ℕ × ℕ) → Views a place b (take (from + words - from) (drop from a)) (wordAt place from)
     unfolding viewOn viewFrom
     view-words place =
@@ -45,12 +45,12 @@ module _ (a : List ℕ) (b : ℕ) (sized : Sized) (answers : sizedNumbers sized 
     pub view-within : from + words ≤ length a
     view-within = go (size-case a b) (ap sizedNumbers (sym e) ∙ answers)
       where
-        go : {outcome : Outcome} → Case 1 a (BlockRefused a b) (Measures a b) outcome → success (granted ∷ []) ≡ outcome .answer
+        go : {outcome : Outcome} → Case 2 a (BlockRefused a b) (Measures a b) outcome → success (asked ∷ granted ∷ []) ≡ outcome .answer
             → from + words ≤ length a
         go (refuses why r) p = absurd (omega (arith, ap (λ (r : Answer). r .code) p, number-positive why))
-        go (does (measures is-sound pre s post is)) p =
-            let size-is : granted ≡ s - headerWords = ap (λ (r : Answer). getD (r .values) 0 0) p in
-            omega (arith, sound-around a pre (live s) post is-sound (is .same), is .number-is, block-sizes a b pre s post is-sound is .1)
+        go (does (measures is-sound pre s n post is)) p =
+            let size-is : granted ≡ s - headerWords = ap (λ (r : Answer). getD (r .values) 1 0) p in
+            omega (arith, sound-around a pre (live s n) post is-sound (is .same), is .number-is, block-sizes a b pre s n post is-sound is .1)
 
 -- a view answers a part of the arena: two that its promise allows hold the same words, and lie at the same place
 pub view-determined : (a : List ℕ) (place : ℕ × ℕ) (b : ℕ) (part part′ : List ℕ) (lies lies′ : ℕ × ℕ)

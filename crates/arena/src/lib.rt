@@ -38,7 +38,7 @@ pub fn alloc(a: &mut [u32], n: u32) -> Granted
     match asked {
         Asked::Need(need) => {
             let place = fits::first_fit(a, need);
-            targets::grant(a, place, need)
+            targets::grant(a, place, need, n)
         }
         Asked::Refused(why) => Granted::Refused(why),
     }
@@ -52,7 +52,7 @@ pub fn alloc_best(a: &mut [u32], n: u32) -> Granted
     match asked {
         Asked::Need(need) => {
             let place = fits::best_fit(a, need);
-            targets::grant(a, place, need)
+            targets::grant(a, place, need, n)
         }
         Asked::Refused(why) => Granted::Refused(why),
     }
@@ -69,7 +69,7 @@ pub fn alloc_next(a: &mut [u32], rover: u32, n: u32) -> Roved
             let place = fits::next_fit(a, wide(rover), need);
             let moved = targets::start_of(place, rover);
             Roved {
-                granted: targets::grant(a, place, need),
+                granted: targets::grant(a, place, need, n),
                 rover: moved,
             }
         }
@@ -101,7 +101,7 @@ pub fn resize(a: &mut [u32], b: u32, n: u32) -> Granted
     let target = targets::target_of(a, b, n);
     match target {
         Target::Block { link, chunk, need } => {
-            let way = ways::staying::resize_at(a, link, chunk, need);
+            let way = ways::staying::resize_at(a, link, chunk, need, n);
             targets::answer(way, Reason::WouldMove)
         }
         Target::Refused(why) => Granted::Refused(why),
@@ -115,7 +115,7 @@ pub fn relocate(a: &mut [u32], b: u32, n: u32) -> Granted
     let target = targets::target_of(a, b, n);
     match target {
         Target::Block { link, chunk, need } => {
-            let way = ways::moving::relocate_at(a, link, chunk, need);
+            let way = ways::moving::relocate_at(a, link, chunk, need, n);
             targets::answer(way, Reason::NoRoom)
         }
         Target::Refused(why) => Granted::Refused(why),
@@ -129,22 +129,23 @@ pub fn realloc(a: &mut [u32], b: u32, n: u32) -> Granted
     let target = targets::target_of(a, b, n);
     match target {
         Target::Block { link, chunk, need } => {
-            let way = ways::regrant_at(a, link, chunk, need);
+            let way = ways::regrant_at(a, link, chunk, need, n);
             targets::answer(way, Reason::NoRoom)
         }
         Target::Refused(why) => Granted::Refused(why),
     }
 }
 
-// The granted words of block `b`.
+// The words that were asked for when block `b` was granted last, and its granted words.
 pub fn size(a: &[u32], b: u32) -> Sized
     ensures { λ r. ⌜ Gives (sizeOn (now (a .entry)) b) (sizedNumbers r) (now (a .entry)) ⌝ }
 {
     let located = targets::locate(a, b);
     match located {
-        Located::Chunk { link: _, chunk } => {
-            Sized::Words(layout::block_words(wide(a[chunk])) as u32)
-        }
+        Located::Chunk { link: _, chunk } => Sized::Words {
+            asked: layout::asked_in(a[chunk + 1]),
+            granted: layout::block_words(wide(a[chunk])) as u32,
+        },
         Located::Refused(why) => Sized::Refused(why),
     }
 }
@@ -154,7 +155,7 @@ pub fn view(a: &[u32], b: u32) -> &[u32]
     ensures { λ r. ⌜ Views (now (a .entry)) (ptr (a .entry)) b (now r) (ptr r) ⌝ }
 {
     let sized = size(a, b);
-    let Sized::Words(granted) = sized else {
+    let Sized::Words { asked: _, granted } = sized else {
         return &a[..0];
     };
     let from = wide(b);
@@ -167,7 +168,7 @@ pub fn view_mut(a: &mut [u32], b: u32) -> &mut [u32]
     ensures { λ r. ⌜ Views (now (a .entry)) (ptr (a .entry)) b (now r) (ptr r) ⌝ }
 {
     let sized = size(a, b);
-    let Sized::Words(granted) = sized else {
+    let Sized::Words { asked: _, granted } = sized else {
         return &mut a[..0];
     };
     let from = wide(b);

@@ -1,8 +1,7 @@
 -- An answer's numbers as a record has them. No public contract cites this file.
-use Rattle.rules.specs.Batches.{served}
+use lib.ListN.{getD}
 use Rattle.rules.specs.declared.Served.{Served}
-use Rattle.answers.specs.Padded.{answerIn}
 use Rattle.answers.specs.declared.Numbers.{Numbers}
 
 abbrev pub servedIn : Numbers → Served
-servedIn numbers = served (answerIn numbers)
+servedIn numbers = record { code = numbers .code; block = getD (numbers .fields) 0 0; granted = getD (numbers .fields) 1 0 }

@@ -27,28 +27,13 @@ fn call(a: &mut [u32], kind: u32, b: u32, n: u32) -> Numbers
     }
 }
 
-// The block and the granted words of an answer, 0 for what it has not: it has no fields, or granted words, or both.
+// An answer as a record has it: the first two of its fields, which are 0 where it has none.
 fn in_record(numbers: Numbers) -> Served
     ensures { λ r. ⌜ r ≡ servedIn numbers ⌝ }
 {
-    let code = numbers.code;
     let fields = numbers.fields;
-    if numbers.count == 0 {
-        return Served {
-            code,
-            block: 0,
-            granted: 0,
-        };
-    }
-    if numbers.count == 1 {
-        return Served {
-            code,
-            block: 0,
-            granted: fields[0],
-        };
-    }
     Served {
-        code,
+        code: numbers.code,
         block: fields[0],
         granted: fields[1],
     }

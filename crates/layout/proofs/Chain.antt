@@ -19,7 +19,7 @@ linked-chain : (a : List ℕ) (link c : ℕ) (ks : List Chunk) → Linked a link
 linked-chain a link c [] h z l f = h .0
 linked-chain a link c (free s ∷ ks) h z l f =
     (h .0, h .1 .0, l, omega arith, linked-chain a (c + 1) (c + s) ks (h .1 .1, h .1 .2) (z .2) (omega arith) (omega arith))
-linked-chain a link c (live s ∷ ks) h z l f = linked-chain a link (c + s) ks (h .0, h .1 .2) (z .2) (omega arith) (omega arith)
+linked-chain a link c (live s asked ∷ ks) h z l f = linked-chain a link (c + s) ks (h .0, h .1 .2) (z .2) (omega arith) (omega arith)
 
 -- in an arena of the chunks `ks`, the links from the list's first word on lead through the free ones, and end there
 pub chain : (a : List ℕ) (ks : List Chunk) → Arena a ks → Chain a listWord (freeList firstChunk ks)
@@ -54,7 +54,7 @@ behind : (a : List ℕ) (base c : ℕ) (pre post : List Chunk) (d : ℕ) → d �
     → Chain a base (freeList c (pre ++ post)) → Chain a (linkAt base c pre) (freeList d post)
 behind a base c [] post d e h = subst (λ (n : ℕ). Chain a base (freeList n post)) (omega arith) h
 behind a base c (free s ∷ pre) post d e h = behind a (c + 1) (c + s) pre post d (omega arith) (h .4)
-behind a base c (live s ∷ pre) post d e h = behind a base (c + s) pre post d (omega arith) h
+behind a base c (live s asked ∷ pre) post d e h = behind a base (c + s) pre post d (omega arith) h
 
 -- from there on the links lead through the free chunks behind `pre`
 pub chain-behind : (a : List ℕ) (pre post : List Chunk) (d : ℕ) → Arena a (pre ++ post) → d ≡ firstChunk + total pre
@@ -65,7 +65,7 @@ chain-behind a pre post d r e = behind a listWord firstChunk pre post d e (chain
 pub chain-first : (a : List ℕ) (link c : ℕ) (ks : List Chunk) → Chain a link (freeList c ks) → getD a link 0 ≡ firstFree c ks 0
 chain-first a link c [] h = h
 chain-first a link c (free s ∷ ks) h = h .0
-chain-first a link c (live s ∷ ks) h = chain-first a link (c + s) ks h
+chain-first a link c (live s asked ∷ ks) h = chain-first a link (c + s) ks h
 
 -- and the second word of that one names the next
 pub chain-next : (a : List ℕ) (link c s : ℕ) (ks : List Chunk) → Chain a link (freeList c (free s ∷ ks)) → getD a (c + 1) 0 ≡ firstFree (c + s) ks 0

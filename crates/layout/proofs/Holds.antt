@@ -3,17 +3,28 @@ use mathlib.Core.Path.{_≡_, refl, sym, ap, _∙_, subst}
 use mathlib.Core.Logic.{_≢_}
 use mathlib.Core.Bool.{Bool, true, false}
 use mathlib.Core.List.{List, [], _∷_, _++_}
-use Prim.Native.Nat.{ℕ, _+_, _%_, _≤_, _<_}
+use Prim.Native.Nat.{ℕ, _+_, _-_, _%_, _≤_, _<_}
 use native.Mathlib.Omega.{arith}
 use lib.ListN.{getD, set}
 use lib.Seq.{getD-set-other}
-use Rattle.layout.specs.Numbers.{firstChunk, leastSize, leastLength, greatestLength, liveMark}
+use Rattle.layout.specs.Numbers.{firstChunk, headerWords, leastSize, leastLength, greatestLength, liveMark}
 use Rattle.layout.specs.Chunks.{Chunk, free, live, size, total, firstFree, second}
 
 -- every size is even and not too small
 abbrev pub Sizes : List Chunk → Type 0
 Sizes [] = Unit {0}
 Sizes (k ∷ ks) = (size k % 2 ≡ 0) × (leastSize ≤ size k) × Sizes ks
+
+-- what was asked for is something, and a chunk of `s` words holds it
+pub record AskedOf (s asked : ℕ) : Type 0 where
+  pub some : 1 ≤ asked
+  pub held : asked ≤ s - headerWords
+
+-- so of every live chunk
+abbrev pub Asks : List Chunk → Type 0
+Asks [] = Unit {0}
+Asks (free s ∷ ks) = Asks ks
+Asks (live s asked ∷ ks) = AskedOf s asked × Asks ks
 
 -- the headers of `ks`, which begin at word `c`, stand in `a`; the last free one names `after`
 abbrev pub Holds : List ℕ → ℕ → List Chunk → ℕ → Type 0
@@ -30,7 +41,7 @@ InNoHeader c (k ∷ ks) i = (i ≢ c) × (i ≢ c + 1) × InNoHeader (c + size k
 abbrev pub Spaced : Bool → List Chunk → Type 0
 Spaced joined [] = Unit {0}
 Spaced joined (free s ∷ ks) = (joined ≡ false) × Spaced true ks
-Spaced joined (live s ∷ ks) = Spaced false ks
+Spaced joined (live s asked ∷ ks) = Spaced false ks
 
 -- an arena of `n` words may have the chunks `ks`
 pub record Lawful (n : ℕ) (ks : List Chunk) : Type 0 where
@@ -38,6 +49,7 @@ pub record Lawful (n : ℕ) (ks : List Chunk) : Type 0 where
   pub least : leastLength ≤ n
   pub most : n ≤ greatestLength
   pub sizes : Sizes ks
+  pub asks : Asks ks
   pub spaced : Spaced false ks
   pub fills : firstChunk + total ks ≡ n
 
@@ -51,7 +63,7 @@ pub firstFree-append : (c : ℕ) (ks ls : List Chunk) (after d : ℕ) → d ≡ 
     → firstFree c (ks ++ ls) after ≡ firstFree c ks (firstFree d ls after)
 firstFree-append c [] ls after d e = ap (λ (n : ℕ). firstFree n ls after) (omega arith)
 firstFree-append c (free s ∷ ks) ls after d e = refl
-firstFree-append c (live s ∷ ks) ls after d e = firstFree-append (c + s) ks ls after d (omega arith)
+firstFree-append c (live s asked ∷ ks) ls after d e = firstFree-append (c + s) ks ls after d (omega arith)
 
 pub sizes-append : (ks ls : List Chunk) → Sizes ks → Sizes ls → Sizes (ks ++ ls)
 sizes-append [] ls z w = w
@@ -60,6 +72,16 @@ sizes-append (k ∷ ks) ls z w = (z .0, z .1, sizes-append ks ls (z .2) w)
 pub sizes-split : (ks ls : List Chunk) → Sizes (ks ++ ls) → Sizes ks × Sizes ls
 sizes-split [] ls z = (tt, z)
 sizes-split (k ∷ ks) ls z = let r = sizes-split ks ls (z .2) in ((z .0, z .1, r .0), r .1)
+
+pub asks-append : (ks ls : List Chunk) → Asks ks → Asks ls → Asks (ks ++ ls)
+asks-append [] ls z w = w
+asks-append (free s ∷ ks) ls z w = asks-append ks ls z w
+asks-append (live s asked ∷ ks) ls z w = (z .0, asks-append ks ls (z .1) w)
+
+pub asks-split : (ks ls : List Chunk) → Asks (ks ++ ls) → Asks ks × Asks ls
+asks-split [] ls z = (tt, z)
+asks-split (free s ∷ ks) ls z = asks-split ks ls z
+asks-split (live s asked ∷ ks) ls z = let r = asks-split ks ls (z .1) in ((z .0, r .0), r .1)
 
 module _ (a : List ℕ) where
   pub holds-split : (c : ℕ) (ks ls : List Chunk) (after d : ℕ) → d ≡ c + total ks
@@ -73,14 +95,14 @@ module _ (a : List ℕ) where
 pub spaced-left : (joined : Bool) (ks ls : List Chunk) → Spaced joined (ks ++ ls) → Spaced joined ks
 spaced-left joined [] ls h = tt
 spaced-left joined (free s ∷ ks) ls h = (h .0, spaced-left true ks ls (h .1))
-spaced-left joined (live s ∷ ks) ls h = spaced-left false ks ls h
+spaced-left joined (live s asked ∷ ks) ls h = spaced-left false ks ls h
 
 -- what follows some chunks may be changed, if the change keeps the spacing whatever stands before
 pub spaced-under : (joined : Bool) (pre ks ls : List Chunk) → ((j : Bool) → Spaced j ks → Spaced j ls) → Spaced joined (pre ++ ks)
     → Spaced joined (pre ++ ls)
 spaced-under joined [] ks ls f h = f joined h
 spaced-under joined (free s ∷ pre) ks ls f h = (h .0, spaced-under true pre ks ls f (h .1))
-spaced-under joined (live s ∷ pre) ks ls f h = spaced-under false pre ks ls f h
+spaced-under joined (live s asked ∷ pre) ks ls f h = spaced-under false pre ks ls f h
 
 -- ---- one list
 
@@ -88,15 +110,15 @@ spaced-under joined (live s ∷ pre) ks ls f h = spaced-under false pre ks ls f 
 pub spaced-weaken : (ks : List Chunk) → Spaced true ks → Spaced false ks
 spaced-weaken [] h = tt
 spaced-weaken (free s ∷ ks) h = (refl, h .1)
-spaced-weaken (live s ∷ ks) h = h
+spaced-weaken (live s asked ∷ ks) h = h
 
 pub firstFree-within : (c : ℕ) (ks : List Chunk) → firstFree c ks 0 ≤ c + total ks
 firstFree-within c [] = omega arith
 firstFree-within c (free s ∷ ks) = omega arith
-firstFree-within c (live s ∷ ks) = omega (arith, firstFree-within (c + s) ks)
+firstFree-within c (live s asked ∷ ks) = omega (arith, firstFree-within (c + s) ks)
 
--- a link is never the mark of a live chunk
-pub link-unmarked : (c : ℕ) (ks : List Chunk) → c + total ks ≤ greatestLength → firstFree c ks 0 ≢ liveMark
+-- a link is below the mark of a live chunk
+pub link-unmarked : (c : ℕ) (ks : List Chunk) → c + total ks ≤ greatestLength → firstFree c ks 0 < liveMark
 link-unmarked c ks h = omega (arith, firstFree-within c ks)
 
 -- ---- words in no header

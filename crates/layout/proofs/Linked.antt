@@ -19,12 +19,12 @@ Linked a base c ks after = (getD a base 0 ≡ firstFree c ks after) × Holds a c
 pub linkAt-ne : (base c : ℕ) (ks : List Chunk) (i : ℕ) → i ≢ base → i < c → i ≢ linkAt base c ks
 linkAt-ne base c [] i n h = n
 linkAt-ne base c (free s ∷ ks) i n h = linkAt-ne (c + 1) (c + s) ks i (omega arith) (omega arith)
-linkAt-ne base c (live s ∷ ks) i n h = linkAt-ne base (c + s) ks i n (omega arith)
+linkAt-ne base c (live s asked ∷ ks) i n h = linkAt-ne base (c + s) ks i n (omega arith)
 
 pub linkAt-below : (base c : ℕ) (ks : List Chunk) → Sizes ks → base < c → linkAt base c ks < c + total ks
 linkAt-below base c [] z h = omega arith
 linkAt-below base c (free s ∷ ks) z h = omega (arith, linkAt-below (c + 1) (c + s) ks (z .2) (omega arith))
-linkAt-below base c (live s ∷ ks) z h = omega (arith, linkAt-below base (c + s) ks (z .2) (omega arith))
+linkAt-below base c (live s asked ∷ ks) z h = omega (arith, linkAt-below base (c + s) ks (z .2) (omega arith))
 
 -- a store of `next` to the link word has `ks` name `next`, and changes nothing else
 pub relink : (a : List ℕ) (base c : ℕ) (ks : List Chunk) (after next : ℕ) → Sizes ks → base < c → c + total ks ≤ length a
@@ -39,7 +39,7 @@ relink a base c (free s ∷ ks) after next z b f h =
         r .1,
       ),
     )
-relink a base c (live s ∷ ks) after next z b f h =
+relink a base c (live s asked ∷ ks) after next z b f h =
     let r = relink a base (c + s) ks after next (z .2) (omega arith) (omega arith) (h .0, h .1 .2) in (
       r .0,
       (

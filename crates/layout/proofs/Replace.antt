@@ -1,6 +1,6 @@
 -- Some chunks in the middle of an arena are replaced by others: one link is stored anew, and the headers of the new
 -- chunks.
-use mathlib.Core.Path.{_≡_, sym, ap, _∙_}
+use mathlib.Core.Path.{_≡_, refl, sym, ap, _∙_}
 use mathlib.Core.Logic.{_≢_}
 use mathlib.Core.Bool.{Bool, false}
 use mathlib.Core.List.{List, [], _∷_, _++_}
@@ -8,11 +8,11 @@ use Prim.Native.Nat.{ℕ, _+_, _≤_, _<_}
 use native.Mathlib.Omega.{arith}
 use lib.ListN.{length, getD, set}
 use lib.Seq.{getD-set-other}
-use Rattle.layout.specs.Numbers.{firstChunk, listWord}
-use Rattle.layout.specs.Chunks.{Chunk, size, total, firstFree, second, header, write, written}
+use Rattle.layout.specs.Numbers.{firstChunk, listWord, liveMark}
+use Rattle.layout.specs.Chunks.{Chunk, live, size, total, firstFree, second, header, write, written}
 use Rattle.layout.specs.Links.{linkAt}
-use Rattle.layout.proofs.Holds.{Sizes, Holds, Spaced, Lawful, no-header-above, holds-split, firstFree-append, sizes-split, sizes-append}
-use Rattle.layout.proofs.Holds.{total-append, spaced-under}
+use Rattle.layout.proofs.Holds.{Sizes, Asks, Holds, Spaced, Lawful, no-header-above, holds-split, firstFree-append, total-append}
+use Rattle.layout.proofs.Holds.{sizes-split, sizes-append, asks-split, asks-append, spaced-under}
 use Rattle.layout.proofs.Linked.{Linked, linkAt-below, linkAt-ne, relink}
 use Rattle.layout.proofs.Chain.{chain-behind, chain-first}
 use Rattle.layout.proofs.Written.{Arena, set-same, write-fixed, write-no-header, header-same, header-set-second, header-set-other, write-set}
@@ -111,17 +111,30 @@ module _ (a : List ℕ) (pre old new post : List Chunk) (c e : ℕ) (r : Arena a
       let v = chain-first a _ c (old ++ post) (chain-behind a pre (old ++ post) c r at) ∙ firstFree-append c old post 0 e to ∙ sym q in
       replaced ∙ ap (write c new (firstFree e post 0)) (set-same a (linkAt listWord firstChunk pre) _ v)
 
+-- what was asked for a live chunk, which starts at word `c`, becomes `w`: nothing but its second word is written
+pub asked-anew : (a : List ℕ) (pre : List Chunk) (s asked w : ℕ) (post : List Chunk) (c : ℕ) → Arena a (pre ++ live s asked ∷ post)
+    → c ≡ firstChunk + total pre → written (pre ++ live s w ∷ post) a ≡ set a (c + 1) (liveMark + w)
+unfolding write header
+asked-anew a pre s asked w post c r at =
+    let z = sizes-split pre (live s asked ∷ post) (r .law .sizes) .1 in
+    let size-is = holds-split a firstChunk pre (live s asked ∷ post) 0 c at (r .linked .1) .1 .0 in
+    replaced-same a pre (live s asked ∷ []) (live s w ∷ []) post c (c + s) r at (omega arith) (z .0, z .1, tt) refl refl
+    ∙ ap (λ (b : List ℕ). set b (c + 1) (liveMark + w)) (set-same a c s size-is)
+
 -- the chunks stay lawful
-pub lawful-replaced : (n : ℕ) (pre old new post : List Chunk) → Lawful n (pre ++ (old ++ post)) → Sizes new → total new ≡ total old
+pub lawful-replaced : (n : ℕ) (pre old new post : List Chunk) → Lawful n (pre ++ (old ++ post)) → Sizes new → Asks new
+    → total new ≡ total old
     → ((joined : Bool) → Spaced joined (old ++ post) → Spaced joined (new ++ post)) → Lawful n (pre ++ (new ++ post))
-lawful-replaced n pre old new post l z t f =
+lawful-replaced n pre old new post l z w t f =
     let zs = sizes-split pre (old ++ post) (l .sizes) in
+    let ws = asks-split pre (old ++ post) (l .asks) in
     let n′ : firstChunk + (total pre + (total old + total post)) ≡ n = simp total-append at (l .fills) in
     record {
       even = l .even;
       least = l .least;
       most = l .most;
       sizes = sizes-append pre (new ++ post) (zs .0) (sizes-append new post z (sizes-split old post (zs .1) .1));
+      asks = asks-append pre (new ++ post) (ws .0) (asks-append new post w (asks-split old post (ws .1) .1));
       spaced = spaced-under false pre (old ++ post) (new ++ post) f (l .spaced);
       fills = simp total-append (omega arith);
     }

@@ -7,14 +7,14 @@ use Prim.Native.Nat.{ℕ, _+_, _-_, _%_, _≤_}
 use native.Mathlib.Omega.{arith}
 use lib.Dec.{leb, eqb}
 use lib.ListN.{length, getD}
-use borrow.Author.Tests.{eqb-true, eq-eqb, ne-eqb, le-leb}
-use Rattle.layout.specs.Numbers.{firstChunk, listWord, leastSize, leastLength, greatestLength, liveMark, lawful}
+use borrow.Author.Tests.{eqb-true, eq-eqb, ne-eqb, leb-true, le-leb, lt-leb}
+use Rattle.layout.specs.Numbers.{firstChunk, listWord, headerWords, leastSize, leastLength, greatestLength, liveMark, lawful}
 use Rattle.layout.specs.Chunks.{Chunk, free, live, size, total, firstFree, written}
-use Rattle.layout.specs.Walk.{Met, end, chunk, nothing, Walked, broken, whole, withChunk, isWhole, chunksIn, sizeFits, meet, walkFrom, walked}
-use Rattle.layout.specs.Walk.{sound, chunksOf}
+use Rattle.layout.specs.Walk.{Met, end, chunk, nothing, Walked, broken, whole, withChunk, isWhole, chunksIn, sizeFits, isLive, askedIn}
+use Rattle.layout.specs.Walk.{secondFits, headerFits, meet, walkFrom, walked, sound, chunksOf}
 use Rattle.layout.proofs.Bools.{both, lawful-bounds}
-use Rattle.layout.proofs.Walking.{from-end, from-nothing, from-chunk, fits-bounds}
-use Rattle.layout.proofs.Holds.{Sizes, Holds, Spaced, Lawful, link-unmarked, total-append}
+use Rattle.layout.proofs.Walking.{from-end, from-nothing, from-chunk, fits-bounds, header-size}
+use Rattle.layout.proofs.Holds.{Sizes, AskedOf, Asks, Holds, Spaced, Lawful, link-unmarked, total-append}
 use Rattle.layout.proofs.Written.{Arena, written-arena, written-fixed}
 
 -- the words `a` from `c` on are those of `ks`, where the links want the next free chunk at `want`, and `joined` says
@@ -23,6 +23,7 @@ pub record Laid (a : List ℕ) (c want : ℕ) (joined : Bool) (ks : List Chunk) 
   pub names : want ≡ firstFree c ks 0
   pub heads : Holds a c ks 0
   pub sizes : Sizes ks
+  pub asks : Asks ks
   pub fills : c + total ks ≡ length a
   pub spaced : Spaced joined ks
 
@@ -37,30 +38,47 @@ fits-true n c s e =
     let b = fits-bounds n c s e in
     (eqb-true (s % 2) 0 (both (eqb (s % 2) 0) (leb leastSize s && leb s (n - c)) e .0), b .0, b .1)
 
+-- a second word that says live, and what was asked for
+abbrev Live : ℕ → ℕ → Type 0
+Live s second = (second ≡ liveMark + askedIn second) × AskedOf s (askedIn second)
+
+live-true : (s second : ℕ) → isLive second ≡ true → secondFits s second ≡ true → Live s second
+live-true s second e f =
+    let marked = leb-true liveMark second e in
+    let p = both (leb 1 (askedIn second)) (leb (askedIn second) (s - headerWords)) (rw e at f) in
+    (omega arith, record { some = leb-true _ _ (p .0); held = leb-true _ _ (p .1) })
+
 -- the facts behind what the walk meets
 data Told (a : List ℕ) (c want : ℕ) (joined : Bool) : Met → Type 0 where
   at-end : c ≡ length a → want ≡ 0 → Told a c want joined end
-  at-live : Fits (length a) c (getD a c 0) → getD a (c + 1) 0 ≡ liveMark → Told a c want joined (chunk (live (getD a c 0)) want false)
+  at-live : Fits (length a) c (getD a c 0) → Live (getD a c 0) (getD a (c + 1) 0)
+      → Told a c want joined (chunk (live (getD a c 0) (askedIn (getD a (c + 1) 0))) want false)
   at-free : Fits (length a) c (getD a c 0) → joined ≡ false → want ≡ c → Told a c want joined (chunk (free (getD a c 0)) (getD a (c + 1) 0) true)
   at-none : Told a c want joined nothing
 
 told : (a : List ℕ) (c want : ℕ) (joined : Bool) → Told a c want joined (meet a c want joined)
 unfolding meet
 told a c want joined =
-    go (eqb c (length a)) (eqb want 0) (sizeFits (length a) c (getD a c 0)) (eqb (getD a (c + 1) 0) liveMark)
-    (eqb want c) joined refl refl refl refl refl refl
+    go (eqb c (length a)) (eqb want 0) (headerFits a c) (isLive (getD a (c + 1) 0)) (eqb want c) joined refl refl refl refl refl refl
   where
-    go : (b₁ b₂ b₃ b₄ b₅ j : Bool) → eqb c (length a) ≡ b₁ → eqb want 0 ≡ b₂ → sizeFits (length a) c (getD a c 0) ≡ b₃
-        → eqb (getD a (c + 1) 0) liveMark ≡ b₄ → eqb want c ≡ b₅ → joined ≡ j
+    fits : headerFits a c ≡ true → Fits (length a) c (getD a c 0)
+    fits e = fits-true _ _ _ (header-size a c e)
+
+    lives : headerFits a c ≡ true → isLive (getD a (c + 1) 0) ≡ true → Live (getD a c 0) (getD a (c + 1) 0)
+    lives e l =
+        live-true _ _ l (both (sizeFits (length a) c (getD a c 0)) (secondFits (getD a c 0) (getD a (c + 1) 0)) e .1)
+
+    go : (b₁ b₂ b₃ b₄ b₅ j : Bool) → eqb c (length a) ≡ b₁ → eqb want 0 ≡ b₂ → headerFits a c ≡ b₃
+        → isLive (getD a (c + 1) 0) ≡ b₄ → eqb want c ≡ b₅ → joined ≡ j
         → Told a c want joined (cond b₁ (cond b₂ end nothing)
-        (cond b₃ (cond b₄ (chunk (live (getD a c 0)) want false)
+        (cond b₃ (cond b₄ (chunk (live (getD a c 0) (askedIn (getD a (c + 1) 0))) want false)
         (cond j nothing (cond b₅ (chunk (free (getD a c 0)) (getD a (c + 1) 0) true) nothing))) nothing))
     go true true b₃ b₄ b₅ j e₁ e₂ e₃ e₄ e₅ e₆ = at-end (eqb-true _ _ e₁) (eqb-true _ _ e₂)
     go true false b₃ b₄ b₅ j e₁ e₂ e₃ e₄ e₅ e₆ = at-none
     go false b₂ false b₄ b₅ j e₁ e₂ e₃ e₄ e₅ e₆ = at-none
-    go false b₂ true true b₅ j e₁ e₂ e₃ e₄ e₅ e₆ = at-live (fits-true _ _ _ e₃) (eqb-true _ _ e₄)
+    go false b₂ true true b₅ j e₁ e₂ e₃ e₄ e₅ e₆ = at-live (fits e₃) (lives e₃ e₄)
     go false b₂ true false b₅ true e₁ e₂ e₃ e₄ e₅ e₆ = at-none
-    go false b₂ true false true false e₁ e₂ e₃ e₄ e₅ e₆ = at-free (fits-true _ _ _ e₃) e₆ (eqb-true _ _ e₅)
+    go false b₂ true false true false e₁ e₂ e₃ e₄ e₅ e₆ = at-free (fits e₃) e₆ (eqb-true _ _ e₅)
     go false b₂ true false false false e₁ e₂ e₃ e₄ e₅ e₆ = at-none
 
 with-whole : (k k′ : Chunk) (r : Walked) (ks : List Chunk) → withChunk k′ r ≡ whole (k ∷ ks) → (k′ ≡ k) × (r ≡ whole ks)
@@ -75,8 +93,8 @@ pub laid : (ks : List Chunk) (a : List ℕ) (c want : ℕ) (joined : Bool) → w
 laid [] a c want joined e = go (told a c want joined) refl
   where
     go : {m : Met} → Told a c want joined m → meet a c want joined ≡ m → Laid a c want joined []
-    go (at-end p q) m = record { names = q; heads = tt; sizes = tt; fills = omega arith; spaced = tt }
-    go (at-live f l) m = absurd (with-none (live (getD a c 0)) (walkFrom a (c + getD a c 0) want false)
+    go (at-end p q) m = record { names = q; heads = tt; sizes = tt; asks = tt; fills = omega arith; spaced = tt }
+    go (at-live f l) m = absurd (with-none (live (getD a c 0) _) (walkFrom a (c + getD a c 0) want false)
         (sym (from-chunk a c want joined _ _ _ m) ∙ e))
     go (at-free f j l) m =
         absurd (with-none (free (getD a c 0)) (walkFrom a (c + getD a c 0) (getD a (c + 1) 0) true) (sym (from-chunk a c want joined _ _ _ m) ∙ e))
@@ -87,16 +105,30 @@ laid (k ∷ ks) a c want joined e = go (told a c want joined) refl (laid ks a)
         → ((d w : ℕ) (j : Bool) → walkFrom a d w j ≡ whole ks → Laid a d w j ks) → Laid a c want joined (k ∷ ks)
     go (at-end p q) m r = absurd (let z : _≡_ {A = ℕ} 0 1 = cc (from-end a c want joined m, e) in omega arith)
     go (at-live f l) m r =
-        let u = with-whole k (live (getD a c 0)) (walkFrom a (c + getD a c 0) want false) ks (sym (from-chunk a c want joined _ _ _ m) ∙ e) in
+        let u = with-whole k (live (getD a c 0) _) (walkFrom a (c + getD a c 0) want false) ks (sym (from-chunk a c want joined _ _ _ m) ∙ e) in
         let t = r (c + getD a c 0) want false (u .1) in
         rw (← u .0)
-        (record { names = t .names; heads = (refl, l, t .heads); sizes = (f .0, f .1, t .sizes); fills = omega arith; spaced = t .spaced })
+        (record {
+          names = t .names;
+          heads = (refl, l .0, t .heads);
+          sizes = (f .0, f .1, t .sizes);
+          asks = (l .1, t .asks);
+          fills = omega arith;
+          spaced = t .spaced;
+        })
     go (at-free f j l) m r =
         let u = with-whole k (free (getD a c 0)) (walkFrom a (c + getD a c 0) (getD a (c + 1) 0) true) ks
         (sym (from-chunk a c want joined _ _ _ m) ∙ e) in
         let t = r (c + getD a c 0) (getD a (c + 1) 0) true (u .1) in
         rw (← u .0)
-        (record { names = l; heads = (refl, t .names, t .heads); sizes = (f .0, f .1, t .sizes); fills = omega arith; spaced = (j, t .spaced) })
+        (record {
+          names = l;
+          heads = (refl, t .names, t .heads);
+          sizes = (f .0, f .1, t .sizes);
+          asks = t .asks;
+          fills = omega arith;
+          spaced = (j, t .spaced);
+        })
     go at-none m r = absurd (let z : _≡_ {A = ℕ} 0 1 = cc (from-nothing a c want joined m, e) in omega arith)
 
 -- ---- what stands there is found
@@ -109,11 +141,21 @@ module _ (a : List ℕ) (c want : ℕ) (joined : Bool) where
   unfolding meet
   meet-end r = rw (eq-eqb c (length a) (omega arith), eq-eqb want 0 (r .names))
 
-  meet-live : (s : ℕ) (ks : List Chunk) → Laid a c want joined (live s ∷ ks) → meet a c want joined ≡ chunk (live s) want false
+  meet-live : (s asked : ℕ) (ks : List Chunk) → Laid a c want joined (live s asked ∷ ks) → meet a c want joined ≡ chunk (live s asked) want false
   unfolding meet
-  meet-live s ks r =
+  meet-live s asked ks r =
       let z : (s % 2 ≡ 0) × (leastSize ≤ s) × Sizes ks = r .sizes in
-      rw (ne-eqb c (length a) (omega arith), r .heads .0, true-fits (length a) c s (z .0, z .1, omega arith), r .heads .1)
+      let told : liveMark + asked - liveMark ≡ asked = omega arith in
+      rw (
+        ne-eqb c (length a) (omega arith),
+        r .heads .0,
+        true-fits (length a) c s (z .0, z .1, omega arith),
+        r .heads .1,
+        le-leb liveMark (liveMark + asked) (omega arith),
+        told,
+        le-leb 1 asked (r .asks .0 .some),
+        le-leb asked (s - headerWords) (r .asks .0 .held),
+      )
 
   meet-free : (s : ℕ) (ks : List Chunk) → Laid a c want joined (free s ∷ ks) → length a ≤ greatestLength
       → meet a c want joined ≡ chunk (free s) (firstFree (c + s) ks 0) true
@@ -125,24 +167,26 @@ module _ (a : List ℕ) (c want : ℕ) (joined : Bool) where
         r .heads .0,
         true-fits (length a) c s (z .0, z .1, omega arith),
         r .heads .1,
-        ne-eqb (firstFree (c + s) ks 0) liveMark (link-unmarked (c + s) ks (omega arith)),
+        lt-leb liveMark (firstFree (c + s) ks 0) (link-unmarked (c + s) ks (omega arith)),
         r .spaced .0,
         eq-eqb want c (r .names),
       )
 
   -- the chunks behind the first
-  past-live : (s : ℕ) (ks : List Chunk) → Laid a c want joined (live s ∷ ks) → Laid a (c + s) want false ks
-  past-live s ks r = record { names = r .names; heads = r .heads .2; sizes = r .sizes .2; fills = omega arith; spaced = r .spaced }
+  past-live : (s asked : ℕ) (ks : List Chunk) → Laid a c want joined (live s asked ∷ ks) → Laid a (c + s) want false ks
+  past-live s asked ks r =
+      record { names = r .names; heads = r .heads .2; sizes = r .sizes .2; asks = r .asks .1; fills = omega arith; spaced = r .spaced }
 
   past-free : (s : ℕ) (ks : List Chunk) → Laid a c want joined (free s ∷ ks) → Laid a (c + s) (firstFree (c + s) ks 0) true ks
-  past-free s ks r = record { names = refl; heads = r .heads .2; sizes = r .sizes .2; fills = omega arith; spaced = r .spaced .1 }
+  past-free s ks r =
+      record { names = refl; heads = r .heads .2; sizes = r .sizes .2; asks = r .asks; fills = omega arith; spaced = r .spaced .1 }
 
 pub walks : (ks : List Chunk) (a : List ℕ) (c want : ℕ) (joined : Bool) → Laid a c want joined ks → length a ≤ greatestLength
     → walkFrom a c want joined ≡ whole ks
 walks [] a c want joined r n = from-end a c want joined (meet-end a c want joined r)
-walks (live s ∷ ks) a c want joined r n =
-    from-chunk a c want joined _ _ _ (meet-live a c want joined s ks r)
-    ∙ ap (withChunk (live s)) (walks ks a (c + s) want false (past-live a c want joined s ks r) n)
+walks (live s asked ∷ ks) a c want joined r n =
+    from-chunk a c want joined _ _ _ (meet-live a c want joined s asked ks r)
+    ∙ ap (withChunk (live s asked)) (walks ks a (c + s) want false (past-live a c want joined s asked ks r) n)
 walks (free s ∷ ks) a c want joined r n =
     from-chunk a c want joined _ _ _ (meet-free a c want joined s ks r n)
     ∙ ap (withChunk (free s)) (walks ks a (c + s) (firstFree (c + s) ks 0) true (past-free a c want joined s ks r) n)
@@ -154,7 +198,7 @@ unfolding walked
 arena-walked a ks r =
     let l = r .law in
     walks ks a firstChunk (getD a listWord 0) false
-    (record { names = r .linked .0; heads = r .linked .1; sizes = l .sizes; fills = l .fills; spaced = l .spaced }) (l .most)
+    (record { names = r .linked .0; heads = r .linked .1; sizes = l .sizes; asks = l .asks; fills = l .fills; spaced = l .spaced }) (l .most)
 
 pub arena-chunks : (a : List ℕ) (ks : List Chunk) → Arena a ks → chunksOf a ≡ ks
 unfolding chunksOf
@@ -189,7 +233,7 @@ sound-arena a e =
           record {
             words = h;
             linked = (f .names, f .heads);
-            law = record { even = l .0; least = l .1; most = l .2; sizes = f .sizes; spaced = f .spaced; fills = f .fills };
+            law = record { even = l .0; least = l .1; most = l .2; sizes = f .sizes; asks = f .asks; spaced = f .spaced; fills = f .fills };
           },
         )
 

@@ -7,9 +7,10 @@ use native.Mathlib.Omega.{arith}
 use lib.ListN.{length, getD}
 use lib.Dec.{leb, eqb}
 use borrow.Author.Tests.{leb-true}
-use Rattle.layout.specs.Numbers.{liveMark, leastSize}
+use Rattle.layout.specs.Numbers.{leastSize}
 use Rattle.layout.specs.Chunks.{Chunk, free, live, size}
-use Rattle.layout.specs.Walk.{Met, end, chunk, nothing, Walked, broken, whole, withChunk, sizeFits, meet, walk, walkFrom}
+use Rattle.layout.specs.Walk.{Met, end, chunk, nothing, Walked, broken, whole, withChunk, sizeFits, isLive, askedIn, secondFits, headerFits}
+use Rattle.layout.specs.Walk.{meet, walk, walkFrom}
 use Rattle.layout.proofs.Bools.{both}
 
 -- a size that fits
@@ -18,25 +19,29 @@ fits-bounds n c x e =
     let r = both (leb leastSize x) (leb x (n - c)) (both (eqb (x % 2) 0) (leb leastSize x && leb x (n - c)) e .1) in
     (leb-true leastSize x (r .0), leb-true x (n - c) (r .1))
 
+-- in a header that fits
+pub header-size : (a : List ℕ) (c : ℕ) → headerFits a c ≡ true → sizeFits (length a) c (getD a c 0) ≡ true
+header-size a c e = both (sizeFits (length a) c (getD a c 0)) (secondFits (getD a c 0) (getD a (c + 1) 0)) e .0
+
 -- a chunk that the walk meets has at least 4 words, and ends within the arena
-met-parts : (b₁ b₂ b₃ b₄ b₅ j : Bool) (s v w w′ : ℕ) (j′ : Bool) (k : Chunk)
-    → cond b₁ (cond b₂ end nothing) (cond b₃ (cond b₄ (chunk (live s) w false) (cond j nothing (cond b₅ (chunk (free s) v true) nothing))) nothing)
+met-parts : (b₁ b₂ b₃ b₄ b₅ j : Bool) (s n v w w′ : ℕ) (j′ : Bool) (k : Chunk)
+    → cond b₁ (cond b₂ end nothing) (cond b₃ (cond b₄ (chunk (live s n) w false) (cond j nothing (cond b₅ (chunk (free s) v true) nothing))) nothing)
     ≡ chunk k w′ j′ → (b₃ ≡ true) × (size k ≡ s)
-met-parts true true b₃ b₄ b₅ j s v w w′ j′ k e = (cc, cc)
-met-parts true false b₃ b₄ b₅ j s v w w′ j′ k e = (cc, cc)
-met-parts false b₂ false b₄ b₅ j s v w w′ j′ k e = (cc, cc)
-met-parts false b₂ true true b₅ j s v w w′ j′ k e = (refl, cc)
-met-parts false b₂ true false b₅ true s v w w′ j′ k e = (cc, cc)
-met-parts false b₂ true false true false s v w w′ j′ k e = (refl, cc)
-met-parts false b₂ true false false false s v w w′ j′ k e = (cc, cc)
+met-parts true true b₃ b₄ b₅ j s n v w w′ j′ k e = (cc, cc)
+met-parts true false b₃ b₄ b₅ j s n v w w′ j′ k e = (cc, cc)
+met-parts false b₂ false b₄ b₅ j s n v w w′ j′ k e = (cc, cc)
+met-parts false b₂ true true b₅ j s n v w w′ j′ k e = (refl, cc)
+met-parts false b₂ true false b₅ true s n v w w′ j′ k e = (cc, cc)
+met-parts false b₂ true false true false s n v w w′ j′ k e = (refl, cc)
+met-parts false b₂ true false false false s n v w w′ j′ k e = (cc, cc)
 
 met-bounds : (a : List ℕ) (c w : ℕ) (j : Bool) (k : Chunk) (w′ : ℕ) (j′ : Bool) → meet a c w j ≡ chunk k w′ j′
     → (leastSize ≤ size k) × (size k ≤ length a - c)
 unfolding meet
 met-bounds a c w j k w′ j′ e =
-    let p = met-parts (eqb c (length a)) (eqb w 0) (sizeFits (length a) c (getD a c 0)) (eqb (getD a (c + 1) 0) liveMark) (eqb w c) j (getD a c 0)
+    let p = met-parts (eqb c (length a)) (eqb w 0) (headerFits a c) (isLive (getD a (c + 1) 0)) (eqb w c) j (getD a c 0) (askedIn (getD a (c + 1) 0))
     (getD a (c + 1) 0) w w′ j′ k e in
-    let b = fits-bounds (length a) c (getD a c 0) (p .0) in
+    let b = fits-bounds (length a) c (getD a c 0) (header-size a c (p .0)) in
     (omega (arith, p .1, b .0), omega (arith, p .1, b .1))
 
 -- enough fuel is as good as any

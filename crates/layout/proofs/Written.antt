@@ -140,4 +140,4 @@ write-set after a v z (later {c} {i} {k} {ks} h) =
 pub linkAt-in : (P : ℕ → Type 0) (base c : ℕ) (ks : List Chunk) → P base → ((i : ℕ) → Head c ks i → P i) → P (linkAt base c ks)
 linkAt-in P base c [] p f = p
 linkAt-in P base c (free s ∷ ks) p f = linkAt-in P (c + 1) (c + s) ks (f (c + 1) at-second) (λ i h. f i (later h))
-linkAt-in P base c (live s ∷ ks) p f = linkAt-in P base (c + s) ks p (λ i h. f i (later h))
+linkAt-in P base c (live s asked ∷ ks) p f = linkAt-in P base (c + s) ks p (λ i h. f i (later h))

@@ -4,14 +4,14 @@ use mathlib.Core.List.{List, [], _∷_}
 use lib.ListN.{length, set}
 use Rattle.layout.specs.Numbers.{firstChunk, liveMark}
 
--- a chunk of so many words, header counted
+-- a chunk of so many words, header counted; a live one with the words that were asked for
 pub data Chunk : Type 0 where
-  free : ℕ → Chunk
-  live : ℕ → Chunk
+  free : (size : ℕ) → Chunk
+  live : (size asked : ℕ) → Chunk
 
 abbrev pub size : Chunk → ℕ
 size (free s) = s
-size (live s) = s
+size (live s asked) = s
 
 abbrev pub total : List Chunk → ℕ
 total [] = 0
@@ -21,12 +21,12 @@ total (k ∷ ks) = size k + total ks
 abbrev pub firstFree : ℕ → List Chunk → ℕ → ℕ
 firstFree c [] after = after
 firstFree c (free s ∷ ks) after = c
-firstFree c (live s ∷ ks) after = firstFree (c + s) ks after
+firstFree c (live s asked ∷ ks) after = firstFree (c + s) ks after
 
 -- a chunk's second word, where the next free chunk starts at `next`
 abbrev pub second : Chunk → ℕ → ℕ
 second (free s) next = next
-second (live s) next = liveMark
+second (live s asked) next = liveMark + asked
 
 -- the words `a` with `v` in word `i` and `w` in word `i + 1`
 unfoldable pub header : ℕ → ℕ → ℕ → List ℕ → List ℕ

@@ -11,13 +11,13 @@ use Rattle.layout.specs.Chunks.{Chunk, free, live}
 abbrev pub linkAt : ℕ → ℕ → List Chunk → ℕ
 linkAt base c [] = base
 linkAt base c (free s ∷ ks) = linkAt (c + 1) (c + s) ks
-linkAt base c (live s ∷ ks) = linkAt base (c + s) ks
+linkAt base c (live s asked ∷ ks) = linkAt base (c + s) ks
 
 -- the free list of `ks`, which begin at word `c`: the start and the size of each free chunk, in address order
 abbrev pub freeList : ℕ → List Chunk → List (ℕ × ℕ)
 freeList c [] = []
 freeList c (free s ∷ ks) = (c, s) ∷ freeList (c + s) ks
-freeList c (live s ∷ ks) = freeList (c + s) ks
+freeList c (live s asked ∷ ks) = freeList (c + s) ks
 
 -- the links from word `link` on lead through `list`, a start and a size each, and end there: word `link` names a chunk
 -- above it whose header lies in the arena; the first word of that chunk is its size, the second the next link; the last

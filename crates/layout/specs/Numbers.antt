@@ -38,9 +38,9 @@ leastSplit = 8
 abbrev pub wordValues : ℕ
 wordValues = 4294967296
 
--- the second word of a live chunk
+-- the second word of a live chunk is this number and the words that were asked for; that of a free chunk is below it
 abbrev pub liveMark : ℕ
-liveMark = 4294967295
+liveMark = 2147483648
 
 -- N is lawful: even, and within the two bounds
 abbrev pub lawful : ℕ → Bool

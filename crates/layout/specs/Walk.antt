@@ -4,7 +4,7 @@ use mathlib.Core.List.{List, [], _∷_}
 use mathlib.Core.Bool.{Bool, true, false, cond, _&&_}
 use lib.ListN.{length, getD}
 use lib.Dec.{leb, eqb}
-use Rattle.layout.specs.Numbers.{firstChunk, listWord, leastSize, liveMark, lawful}
+use Rattle.layout.specs.Numbers.{firstChunk, listWord, headerWords, leastSize, liveMark, lawful}
 use Rattle.layout.specs.Chunks.{Chunk, free, live, size}
 
 -- what the walk meets at a place: the end; a chunk, with the start of the next free chunk that is now wanted, and
@@ -35,13 +35,29 @@ chunksIn (whole ks) = ks
 abbrev pub sizeFits : ℕ → ℕ → ℕ → Bool
 sizeFits n c s = eqb (s % 2) 0 && (leb leastSize s && leb s (n - c))
 
+-- a chunk's second word says that it is live, and so many words were asked for then
+abbrev pub isLive : ℕ → Bool
+isLive second = leb liveMark second
+
+abbrev pub askedIn : ℕ → ℕ
+askedIn second = second - liveMark
+
+-- a second word that may stand in a chunk of `s` words: if it says live, that its block holds what was asked for, and
+-- that this was something
+abbrev pub secondFits : ℕ → ℕ → Bool
+secondFits s second = cond (isLive second) (leb 1 (askedIn second) && leb (askedIn second) (s - headerWords)) true
+
+-- a header that may stand at word `c`
+abbrev pub headerFits : List ℕ → ℕ → Bool
+headerFits a c = sizeFits (length a) c (getD a c 0) && secondFits (getD a c 0) (getD a (c + 1) 0)
+
 -- what stands at word `c`; `want` is where the last link says that the next free chunk starts (0: there is none),
 -- `afterFree` whether a free chunk ends at `c`
 unfoldable pub meet : List ℕ → ℕ → ℕ → Bool → Met
 meet a c want afterFree =
     cond (eqb c (length a)) (cond (eqb want 0) end nothing)
-    (cond (sizeFits (length a) c (getD a c 0))
-    (cond (eqb (getD a (c + 1) 0) liveMark) (chunk (live (getD a c 0)) want false)
+    (cond (headerFits a c)
+    (cond (isLive (getD a (c + 1) 0)) (chunk (live (getD a c 0) (askedIn (getD a (c + 1) 0))) want false)
     (cond afterFree nothing (cond (eqb want c) (chunk (free (getD a c 0)) (getD a (c + 1) 0) true) nothing)))
     nothing)
 

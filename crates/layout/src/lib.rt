@@ -1,9 +1,10 @@
 // The layout of an arena: which words are lawful, what stands in them, and what a request needs.
 ghost use mathlib.Core.Path.{_≡_};
 ghost use mathlib.Core.Bool.{true};
-ghost use Prim.Native.Nat.{_-_, _≤_, min};
-ghost use Rattle.layout.specs.Numbers.{lawful, greatestLength, headerWords};
+ghost use Prim.Native.Nat.{_+_, _-_, _≤_, min};
+ghost use Rattle.layout.specs.Numbers.{lawful, greatestLength, headerWords, liveMark};
 ghost use Rattle.layout.specs.Numbers.{need as needOf};
+ghost use Rattle.layout.specs.Walk.{isLive, askedIn};
 ghost use Rattle.layout.specs.Reasons.{requestGate};
 ghost use Rattle.layout.specs.Reasons.{number as numberOf};
 
@@ -23,8 +24,8 @@ pub const LEAST_LENGTH: usize = 6;
 pub const GREATEST_LENGTH: usize = 16384;
 // If this many words or more are left over, they are split off as a chunk of their own.
 pub const LEAST_SPLIT: usize = 8;
-// The second word of a live chunk.
-pub const LIVE_MARK: u32 = 4294967295;
+// The second word of a live chunk is this number and the words that were asked for; that of a free chunk is below it.
+const LIVE_MARK: u32 = 2147483648;
 
 // What fits a word is below this number.
 pub const WORD_VALUES: u64 = 4294967296;
@@ -105,6 +106,29 @@ pub fn block_words(size: usize) -> usize
         return 0;
     }
     size - HEADER_WORDS
+}
+
+// A live chunk's second word, where so many words were asked for.
+pub fn live_word(asked: u32) -> u32
+    requires { ⌜ asked ≤ greatestLength ⌝ }
+    ensures { λ r. ⌜ r ≡ liveMark + asked ⌝ }
+{
+    LIVE_MARK + asked
+}
+
+// Whether a chunk's second word says that it is live.
+pub fn is_live(second: u32) -> bool
+    ensures { λ r. ⌜ r ≡ isLive second ⌝ }
+{
+    LIVE_MARK <= second
+}
+
+// The words that were asked for, in a live chunk's second word.
+pub fn asked_in(second: u32) -> u32
+    requires { ⌜ isLive second ≡ true ⌝ }
+    ensures { λ r. ⌜ r ≡ askedIn second ⌝ }
+{
+    second - LIVE_MARK
 }
 
 // The reasons for which a request of `n` words is refused in an arena of `size` words: Zero, then TooLarge.

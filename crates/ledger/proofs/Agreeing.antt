@@ -23,7 +23,7 @@ pub record Agrees (n : ℕ) (a : List ℕ) (ledger : Ledger) : Type 0 where
   pub lists : ledger ≡ blocksOf a
 
 pub chunked-block : {ks : List Chunk} {above : Ledger} {e : Entry} (k : Chunked firstChunk ks e above)
-    → Stands ks (k .pre) (live (k .s)) (k .post) (e .block)
+    → Stands ks (k .pre) (live (k .s) (k .asked)) (k .post) (e .block)
 chunked-block k = record { same = k .same; number-is = sym (ap (λ (f : Entry). f .block) (k .is)) }
 
 module _ (n : ℕ) (a : List ℕ) (ledger : Ledger) (g : Agrees n a ledger) where
@@ -45,17 +45,17 @@ module _ (n : ℕ) (a : List ℕ) (ledger : Ledger) (g : Agrees n a ledger) wher
 
   -- ---- a block of the arena is an entry of the ledger
 
-  pub block-listed : (b : ℕ) (pre : List Chunk) (s : ℕ) (post : List Chunk) → BlockAt a b pre s post
-      → Listed ledger (record { block = b; granted = s - headerWords })
-  block-listed b pre s post is =
-      let q = g .lists ∙ ap (blocksFrom firstChunk) (is .same) ∙ blocks-append firstChunk pre (live s ∷ post) (firstChunk + total pre) refl in
-      rw (← is .number-is, q) (listed-at (blocksFrom firstChunk pre) (entryAt (firstChunk + total pre) s)
+  pub block-listed : (b : ℕ) (pre : List Chunk) (s asked : ℕ) (post : List Chunk) → BlockAt a b pre s asked post
+      → Listed ledger (record { block = b; granted = s - headerWords; asked = asked })
+  block-listed b pre s asked post is =
+      let q = g .lists ∙ ap (blocksFrom firstChunk) (is .same) ∙ blocks-append firstChunk pre (live s asked ∷ post) (firstChunk + total pre) refl in
+      rw (← is .number-is, q) (listed-at (blocksFrom firstChunk pre) (entryAt (firstChunk + total pre) s asked)
       (blocksFrom (firstChunk + total pre + s) post))
 
   -- a number that no entry has is no block's, and the other way round
   pub unlisted-block : (b : ℕ) → NoBlock a b ↔ Unlisted ledger b
   unlisted-block b = (
     λ none e l q. let (above, k) = listed-chunked e l in
-        none (k .pre, k .s, k .post, record { same = k .same; number-is = chunked-block k .number-is ∙ q }),
-    λ un (pre, s, post, is). un (record { block = b; granted = s - headerWords }) (block-listed b pre s post is) refl,
+        none (k .pre, k .s, k .asked, k .post, record { same = k .same; number-is = chunked-block k .number-is ∙ q }),
+    λ un (pre, s, asked, post, is). un (record { block = b; granted = s - headerWords; asked = asked }) (block-listed b pre s asked post is) refl,
   )

@@ -17,9 +17,9 @@ use Rattle.ledger.specs.Demands.{SameAsSingly, RunsHoldBatches}
 record-notes : (e : Effect) (r : Request) (answer : Answer) (ledger : Ledger)
     → noted e (recordAnswer (filled r (served answer))) ledger ≡ noted e answer ledger
 record-notes (renews blocks) r answer ledger = refl
-record-notes grants r answer ledger = refl
+record-notes (grants w) r answer ledger = refl
 record-notes (frees b) r answer ledger = refl
-record-notes (regrants b) r answer ledger = refl
+record-notes (regrants b w) r answer ledger = refl
 record-notes spares r answer ledger = refl
 
 module _ (library : Library) where

@@ -61,17 +61,17 @@ case-goes {fields} {n} {a} {ledger} c g f (refuses why r) = refused-goes n a led
 case-goes c g f (does {values} {after} d) = f values after d
 
 module _ (n : ℕ) (a : List ℕ) (ledger : Ledger) (g : Agrees n a ledger) where
-  needed : (w : ℕ) → LawfulRequest (length a) w → Needed (need w)
+  needed : (w : ℕ) → LawfulRequest (length a) w → Needed (need w) w
   needed w r = request-needed (length a) w (sound-lawful a (g .is-sound)) r
 
   start-goes : (values after : List ℕ) → Restarts a values after → Goes n a ledger (λ b. b) after []
   start-goes values after (restarts l) = written-goes n a ledger (λ b. b) _ [] (g .long) (whole-lawful a l) refl (λ b. refl)
 
-  alloc-goes : (w : ℕ) (values after : List ℕ) → Allots a w values after → Goes n a ledger (λ b. b) after (noted grants (success values) ledger)
-  alloc-goes w values after (allots e r pre s post (same, enough)) = granted-goes n a ledger g pre s post (need w) same (needed w r) enough
+  alloc-goes : (w : ℕ) (values after : List ℕ) → Allots a w values after → Goes n a ledger (λ b. b) after (noted (grants w) (success values) ledger)
+  alloc-goes w values after (allots e r pre s post (same, enough)) = granted-goes n a ledger g pre s post (need w) w same (needed w r) enough
 
   free-goes : (b : ℕ) (values after : List ℕ) → Frees a b values after → Goes n a ledger (λ c. c) after (noted (frees b) (success values) ledger)
-  free-goes b values after (frees e pre s post is) = freed-goes n a ledger g b pre s post is
+  free-goes b values after (frees e pre s asked post is) = freed-goes n a ledger g b pre s asked post is
 
   -- a call that answers the same block renames none
   same-name : (b c : ℕ) → cond (eqb c b) b c ≡ c
@@ -82,24 +82,24 @@ module _ (n : ℕ) (a : List ℕ) (ledger : Ledger) (g : Agrees n a ledger) wher
       go false q = refl
 
   resize-goes : (b w : ℕ) (values after : List ℕ) → Resizes a b w values after
-      → Goes n a ledger (renamed (regrants b) (success values)) after (noted (regrants b) (success values) ledger)
-  resize-goes b w values after (resizes e r pre s post is keep k) =
-      stays-goes n a ledger g b pre s post (need w) keep (renamed (regrants b) (success values)) is (needed w r) k (same-name b)
+      → Goes n a ledger (renamed (regrants b w) (success values)) after (noted (regrants b w) (success values) ledger)
+  resize-goes b w values after (resizes e r pre s asked post is keep k) =
+      stays-goes n a ledger g b pre s asked post (need w) w keep (renamed (regrants b w) (success values)) is (needed w r) k (same-name b)
 
   relocate-goes : (b w : ℕ) (values after : List ℕ) → Relocates a b w values after
-      → Goes n a ledger (renamed (regrants b) (success values)) after (noted (regrants b) (success values) ledger)
-  relocate-goes b w values after (moves e r pre s post is before t behind fit block at-is ks same count shorter) =
+      → Goes n a ledger (renamed (regrants b w) (success values)) after (noted (regrants b w) (success values) ledger)
+  relocate-goes b w values after (moves e r pre s asked post is before t behind fit block at-is ks same count shorter) =
       rw (same, at-is)
-      (moved-goes n a ledger g b pre s post is before t behind (need w) (fit .0) (needed w r) (fit .1) count shorter
-      (still-there a (need w) pre s post before t behind b _ count e (needed w r) is fit (omega arith) refl))
+      (moved-goes n a ledger g b pre s asked post is before t behind (need w) w (fit .0) (needed w r) (fit .1) count shorter
+      (still-there a (need w) w pre s asked post before t behind b _ count e (needed w r) is fit (omega arith) refl))
 
   realloc-goes : (b w : ℕ) (values after : List ℕ) → Regrants a b w values after
-      → Goes n a ledger (renamed (regrants b) (success values)) after (noted (regrants b) (success values) ledger)
+      → Goes n a ledger (renamed (regrants b w) (success values)) after (noted (regrants b w) (success values) ledger)
   realloc-goes b w values after (in-place d) = resize-goes b w values after d
   realloc-goes b w values after (elsewhere d) = relocate-goes b w values after d
 
   size-goes : (b : ℕ) (values after : List ℕ) → Measures a b values after → Goes n a ledger (λ c. c) after ledger
-  size-goes b values after (measures e pre s post is) = unchanged-goes n a ledger g
+  size-goes b values after (measures e pre s asked post is) = unchanged-goes n a ledger g
 
   report-goes : (values after : List ℕ) → Reports a values after → Goes n a ledger (λ c. c) after ledger
   report-goes values after (reports e) = unchanged-goes n a ledger g

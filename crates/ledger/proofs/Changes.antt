@@ -17,16 +17,16 @@ use Rattle.ledger.proofs.Entries.{Laid, enter-at, strike-at}
 
 -- ---- the blocks of what a rule puts in
 
-pub cut-blocks : (need s d : ℕ) → blocksFrom d (cut need s) ≡ entryAt (d + (s - taken need s)) (taken need s) ∷ []
-cut-blocks need s d = go (splits need s)
+pub cut-blocks : (need w s d : ℕ) → blocksFrom d (cut need w s) ≡ entryAt (d + (s - taken need s)) (taken need s) w ∷ []
+cut-blocks need w s d = go (splits need s)
   where
-    go : (split : Bool) → blocksFrom d (cond split (free (s - need) ∷ live need ∷ []) (live s ∷ [])) ≡ entryAt (d + (s - cond split need s))
-        (cond split need s) ∷ []
+    go : (split : Bool) → blocksFrom d (cond split (free (s - need) ∷ live need w ∷ []) (live s w ∷ [])) ≡ entryAt (d + (s - cond split need s))
+        (cond split need s) w ∷ []
     go true = refl
-    go false = ap (λ (c : ℕ). entryAt c s ∷ []) (omega arith)
+    go false = ap (λ (c : ℕ). entryAt c s w ∷ []) (omega arith)
 
-pub trim-blocks : (keep s d : ℕ) → blocksFrom d (trim keep s) ≡ entryAt d keep ∷ []
-trim-blocks keep s d = ap (_∷_ (entryAt d keep)) (go (leb s keep))
+pub trim-blocks : (keep w s d : ℕ) → blocksFrom d (trim keep w s) ≡ entryAt d keep w ∷ []
+trim-blocks keep w s d = ap (_∷_ (entryAt d keep w)) (go (leb s keep))
   where
     go : (all : Bool) → blocksFrom (d + keep) (cond all [] (free (s - keep) ∷ [])) ≡ []
     go true = refl
@@ -36,7 +36,7 @@ trim-blocks keep s d = ap (_∷_ (entryAt d keep)) (go (leb s keep))
 pub tail-blocks : (d : ℕ) (post : List Chunk) → blocksFrom d (roomTail post) ≡ []
 tail-blocks d [] = refl
 tail-blocks d (free t ∷ ks) = refl
-tail-blocks d (live t ∷ ks) = refl
+tail-blocks d (live t asked ∷ ks) = refl
 
 -- ---- a middle that is replaced: it lies between the words `d` and `e`, and `pre` and `post` stay
 

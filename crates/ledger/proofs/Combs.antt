@@ -15,7 +15,7 @@ use Rattle.layout.specs.Walk.{sound, chunksOf}
 use Rattle.layout.specs.Reasons.{number}
 use Rattle.layout.specs.declared.Reason.the-variants.{NoRoom}
 use Rattle.layout.proofs.Bools.{lawful-bounds}
-use Rattle.layout.proofs.Holds.{Sizes, Spaced, Lawful}
+use Rattle.layout.proofs.Holds.{Sizes, Asks, Spaced, Lawful}
 use Rattle.layout.proofs.Written.{length-written}
 use Rattle.layout.proofs.Bounds.{zeros-below, written-below}
 use Rattle.layout.proofs.Round.{written-sound}
@@ -43,12 +43,16 @@ use Rattle.ledger.specs.Promises.{DoneAbove, Refusing, BestOfItsKind}
 -- words besides
 abbrev comb : ℕ → ℕ → ℕ → List Chunk
 comb gap more zero = free gap ∷ []
-comb gap more (suc blocks) = free gap ∷ live (leastSize + more) ∷ comb gap 0 blocks
+comb gap more (suc blocks) = free gap ∷ live (leastSize + more) 1 ∷ comb gap 0 blocks
 
 module _ (gap : ℕ) where
   comb-sizes : (more blocks : ℕ) → gap % 2 ≡ 0 → leastSize ≤ gap → more % 2 ≡ 0 → Sizes (comb gap more blocks)
   comb-sizes more zero even least even-more = (even, least, tt)
   comb-sizes more (suc blocks) even least even-more = (even, least, (omega arith, omega arith, comb-sizes 0 blocks even least refl))
+
+  comb-asks : (more blocks : ℕ) → Asks (comb gap more blocks)
+  comb-asks more zero = tt
+  comb-asks more (suc blocks) = (record { some = omega arith; held = omega arith }, comb-asks 0 blocks)
 
   comb-spaced : (more blocks : ℕ) → Spaced false (comb gap more blocks)
   comb-spaced more zero = (refl, tt)
@@ -96,6 +100,7 @@ module _ (n w blocks : ℕ) (l : lawful n ≡ true) (three : 3 ≤ w) (fits : co
         least = b .1;
         most = b .2;
         sizes = comb-sizes (mostTooShort w) over (suc blocks) even (omega arith) (omega (arith, b, all));
+        asks = comb-asks (mostTooShort w) over (suc blocks);
         spaced = comb-spaced (mostTooShort w) over (suc blocks);
         fills = omega (arith, one-more, comb-total (mostTooShort w) blocks);
       }

@@ -9,6 +9,7 @@ use Rattle.ledger.specs.Demands.{DemandThree}
 use Rattle.ledger.proofs.Demands as demands
 use Rattle.ledger.proofs.GapsLeft as gaps
 use Rattle.ledger.proofs.BatchRuns as batches
+use Rattle.ledger.proofs.AskedLast as asked
 use Rattle.ledger.proofs.Promises as promises
 use Rattle.ledger.proofs.Plans as plans
 use Rattle.ledger.proofs.Combs as combs
@@ -67,6 +68,8 @@ demand-three-by policies fitting =
       realloc-need-or-room = gaps.realloc-need-or-room policies fitting;
       same-as-singly = batches.same-as-singly (libraryBy policies);
       runs-hold-batches = batches.runs-hold-batches (libraryBy policies);
+      size-tells-asked = asked.size-tells-asked policies fitting (demands.known policies fitting);
+      ledger-keeps-asked = asked.ledger-keeps-asked policies fitting;
       promises = promises-by policies fitting;
       plans = plans-by policies fitting;
       known = demands.known policies fitting;

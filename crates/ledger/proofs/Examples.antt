@@ -12,13 +12,14 @@ use Rattle.layout.specs.Chunks.{free as freeChunk, live as liveChunk, header, w
 use Rattle.layout.specs.Walk.{meet, walk, walkFrom, walked, sound, chunksOf}
 use Rattle.layout.specs.Reasons.{number, arenaGate, requestGate}
 use Rattle.layout.specs.declared.Reason.the-variants.{NoRoom, Frame}
+use Rattle.layout.proofs.Bools.{clash}
 use Rattle.rules.specs.Answers.{Answer, success, refusal, blockField, grantedField}
 use Rattle.rules.specs.Scattered.{scattered}
 use Rattle.rules.specs.Spots.{lowest}
 use Rattle.rules.specs.Rules.{joined, copied}
 use Rattle.rules.specs.Pictures.{pictureOf, framesFrom, line, wordsIn, standingFrom, same, said}
 use Rattle.digits.specs.Digits.{upper, worth, glyph}
-use Rattle.rules.specs.Calls.{startOn, allocBy, freeOn, regrantBy, reportOn, writeOn, readOn}
+use Rattle.rules.specs.Calls.{startOn, allocBy, freeOn, regrantBy, sizeOn, reportOn, writeOn, readOn}
 use Rattle.rules.specs.Fits.{bestFit, first-fit, best-fit, next-fit}
 use Rattle.rules.specs.Libraries.{Call, start, alloc, free, resize, relocate, realloc, size, view, report, write as writePicture, read}
 use Rattle.rules.specs.Libraries.{ours}
@@ -29,7 +30,7 @@ use Rattle.ledger.specs.Ledger.{Entry, enter, strike, told}
 use Rattle.ledger.specs.Gaps.{gaps}
 use Rattle.ledger.specs.Runs.{State, Allowed, answerTo, after, Run, begun, arrived, next}
 use Rattle.ledger.specs.BatchRuns.{ledgerFrom}
-use Rattle.ledger.specs.Holders.{numberAfter, Ended, Cut, StoredLast, just, pictured, still}
+use Rattle.ledger.specs.Holders.{numberAfter, Ended, Cut, StoredLast, just, pictured, still, AskedLast, just-asked, just-pictured}
 
 -- ---- how a run is played
 
@@ -60,9 +61,9 @@ pub calls-allowed : (calls : List Call) (s : State) → AllAllowed (map call cal
 calls-allowed [] s = tt
 calls-allowed (c ∷ cs) s = (tt, calls-allowed cs (after ours (call c) s))
 
--- a block and its granted words
-abbrev entry : ℕ → ℕ → Entry
-entry block granted = record { block = block; granted = granted }
+-- a block, its granted words, and those asked for
+abbrev entry : ℕ → ℕ → ℕ → Entry
+entry block granted asked = record { block = block; granted = granted; asked = asked }
 
 -- ---- the table of document 01
 
@@ -113,7 +114,7 @@ unfolding startOn allocBy freeOn regrantBy reportOn arenaGate requestGate sound 
 table-answers = refl
 
 -- three blocks are held at the end
-pub table-ledger : afterAll (map call rowCalls) fresh .ledger ≡ entry 4 16 ∷ entry 22 2 ∷ entry 26 6 ∷ []
+pub table-ledger : afterAll (map call rowCalls) fresh .ledger ≡ entry 4 16 10 ∷ entry 22 2 1 ∷ entry 26 6 5 ∷ []
 unfolding startOn allocBy freeOn regrantBy reportOn arenaGate requestGate sound chunksOf walked walkFrom walk meet lowest joined copied written write
     header enter strike
 table-ledger = refl
@@ -132,7 +133,7 @@ unfolding startOn allocBy freeOn arenaGate requestGate sound chunksOf walked wal
     strike
 fits-answers = refl
 
-pub fits-ledger : afterAll fitted fresh .ledger ≡ entry 22 2 ∷ entry 26 2 ∷ entry 30 2 ∷ []
+pub fits-ledger : afterAll fitted fresh .ledger ≡ entry 22 2 2 ∷ entry 26 2 1 ∷ entry 30 2 2 ∷ []
 unfolding startOn allocBy freeOn arenaGate requestGate sound chunksOf walked walkFrom walk meet lowest bestFit joined written write header enter
     strike
 fits-ledger = refl
@@ -203,7 +204,7 @@ unfolding startOn allocBy freeOn regrantBy reportOn arenaGate requestGate sound 
 records-ledger = refl
 
 -- what the first five rows after the start leave: blocks 4 and 26, and the gaps below, between and above them
-pub fifth-ledger : afterAll (map call (take 5 rowCalls)) fresh .ledger ≡ entry 4 16 ∷ entry 26 6 ∷ []
+pub fifth-ledger : afterAll (map call (take 5 rowCalls)) fresh .ledger ≡ entry 4 16 10 ∷ entry 26 6 5 ∷ []
 unfolding startOn allocBy freeOn regrantBy reportOn arenaGate requestGate sound chunksOf walked walkFrom walk meet lowest joined copied written write
     header enter strike
 fifth-ledger = refl
@@ -213,16 +214,12 @@ fifth-gaps = ap (gaps 32) fifth-ledger
 
 -- ---- what was stored last, over the events of the runs below
 
--- what two constructors that are said to be equal come to
-pub clash : _≡_ {A = ℕ} 0 1 → ⊥
-clash e = omega arith
-
 -- it stays so where another place of the block is stored to
 stored-elsewhere : {s : State} {b i v : ℕ} → StoredLast ours 32 s b i v → (j w : ℕ) → Allowed (store b j w) (s .ledger) → i ≢ j
     → StoredLast ours 32 (after ours (store b j w) s) b i v
 stored-elsewhere {b} last j w allowed other =
     still last (store b j w) allowed
-    (λ ended. ⊎-elim (λ is. clash cc) (λ is. clash cc) (ended .1)) (λ cut. let is = cut .1 in clash cc) (λ v is. other cc)
+    (λ ended. ⊎-elim (λ is. clash cc) (λ is. clash cc) (ended .1)) (λ cut. let is = cut .1 .1 in clash cc) (λ v is. other cc)
 
 -- and where the block is regranted with the place
 regranted : {s : State} {b i v : ℕ} → StoredLast ours 32 s b i v → (w : ℕ) → i < told (answerTo ours (call (realloc b w)) s) .granted
@@ -241,9 +238,9 @@ heldState =
           32 ∷ 2 ∷ 22 ∷ 0 ∷ 0 ∷ 0 ∷ 0 ∷ 0
           ∷ 0 ∷ 0 ∷ 0 ∷ 0 ∷ 0 ∷ 0 ∷ 0 ∷ 0
           ∷ 0 ∷ 0 ∷ 0 ∷ 0 ∷ 0 ∷ 0 ∷ 0 ∷ 0
-          ∷ 4 ∷ 4294967295 ∷ 0 ∷ 0 ∷ 4 ∷ 4294967295 ∷ 0 ∷ 0
+          ∷ 4 ∷ 2147483650 ∷ 0 ∷ 0 ∷ 4 ∷ 2147483650 ∷ 0 ∷ 0
           ∷ [];
-      ledger = entry 26 2 ∷ entry 30 2 ∷ [];
+      ledger = entry 26 2 2 ∷ entry 30 2 2 ∷ [];
     }
 
 unfoldable pub held : Run ours 32 heldState
@@ -258,16 +255,16 @@ storedState =
           32 ∷ 2 ∷ 22 ∷ 0 ∷ 0 ∷ 0 ∷ 0 ∷ 0
           ∷ 0 ∷ 0 ∷ 0 ∷ 0 ∷ 0 ∷ 0 ∷ 0 ∷ 0
           ∷ 0 ∷ 0 ∷ 0 ∷ 0 ∷ 0 ∷ 0 ∷ 0 ∷ 0
-          ∷ 4 ∷ 4294967295 ∷ 5 ∷ 7 ∷ 4 ∷ 4294967295 ∷ 0 ∷ 0
+          ∷ 4 ∷ 2147483650 ∷ 5 ∷ 7 ∷ 4 ∷ 2147483650 ∷ 0 ∷ 0
           ∷ [];
-      ledger = entry 26 2 ∷ entry 30 2 ∷ [];
+      ledger = entry 26 2 2 ∷ entry 30 2 2 ∷ [];
     }
 
 abbrev five-allowed : Allowed (store 26 0 5) (heldState .ledger)
-five-allowed = ((entry 26 2, inl refl, refl, omega arith), omega arith)
+five-allowed = ((entry 26 2 2, inl refl, refl, omega arith), omega arith)
 
 abbrev seven-allowed : Allowed (store 26 1 7) (heldState .ledger)
-seven-allowed = ((entry 26 2, inl refl, refl, omega arith), omega arith)
+seven-allowed = ((entry 26 2 2, inl refl, refl, omega arith), omega arith)
 
 unfoldable pub stored : Run ours 32 storedState
 stored = play held (store 26 0 5 ∷ store 26 1 7 ∷ []) (five-allowed, (seven-allowed, tt))
@@ -279,10 +276,10 @@ movedState =
       words =
           32 ∷ 2 ∷ 14 ∷ 24 ∷ 0 ∷ 0 ∷ 0 ∷ 0
           ∷ 0 ∷ 0 ∷ 0 ∷ 0 ∷ 0 ∷ 0 ∷ 0 ∷ 0
-          ∷ 8 ∷ 4294967295 ∷ 5 ∷ 7 ∷ 0 ∷ 0 ∷ 0 ∷ 0
-          ∷ 4 ∷ 0 ∷ 5 ∷ 7 ∷ 4 ∷ 4294967295 ∷ 0 ∷ 0
+          ∷ 8 ∷ 2147483654 ∷ 5 ∷ 7 ∷ 0 ∷ 0 ∷ 0 ∷ 0
+          ∷ 4 ∷ 0 ∷ 5 ∷ 7 ∷ 4 ∷ 2147483650 ∷ 0 ∷ 0
           ∷ [];
-      ledger = entry 18 6 ∷ entry 30 2 ∷ [];
+      ledger = entry 18 6 6 ∷ entry 30 2 2 ∷ [];
     }
 
 unfoldable pub moved : Run ours 32 movedState
@@ -298,7 +295,7 @@ pub move-words : take 2 (drop 18 (movedState .words)) ≡ take 2 (drop 26 (store
 move-words = refl
 
 -- free chunks are 2 (size 14) and 24 (size 4)
-pub move-chunks : chunksOf (movedState .words) ≡ freeChunk 14 ∷ liveChunk 8 ∷ freeChunk 4 ∷ liveChunk 4 ∷ []
+pub move-chunks : chunksOf (movedState .words) ≡ freeChunk 14 ∷ liveChunk 8 6 ∷ freeChunk 4 ∷ liveChunk 4 2 ∷ []
 unfolding chunksOf walked walkFrom walk meet
 move-chunks = refl
 
@@ -317,7 +314,7 @@ abbrev filledState : State
 filledState = record { words = set (movedState .words) 23 9; ledger = movedState .ledger }
 
 abbrev nine-allowed : Allowed (store 18 5 9) (movedState .ledger)
-nine-allowed = ((entry 18 6, inl refl, refl, omega arith), omega arith)
+nine-allowed = ((entry 18 6 6, inl refl, refl, omega arith), omega arith)
 
 unfoldable pub filled : Run ours 32 filledState
 filled = play moved (store 18 5 9 ∷ []) (nine-allowed, tt)
@@ -329,10 +326,10 @@ cutState =
       words =
           32 ∷ 2 ∷ 14 ∷ 20 ∷ 0 ∷ 0 ∷ 0 ∷ 0
           ∷ 0 ∷ 0 ∷ 0 ∷ 0 ∷ 0 ∷ 0 ∷ 0 ∷ 0
-          ∷ 4 ∷ 4294967295 ∷ 5 ∷ 7 ∷ 8 ∷ 0 ∷ 0 ∷ 9
-          ∷ 4 ∷ 0 ∷ 5 ∷ 7 ∷ 4 ∷ 4294967295 ∷ 0 ∷ 0
+          ∷ 4 ∷ 2147483649 ∷ 5 ∷ 7 ∷ 8 ∷ 0 ∷ 0 ∷ 9
+          ∷ 4 ∷ 0 ∷ 5 ∷ 7 ∷ 4 ∷ 2147483650 ∷ 0 ∷ 0
           ∷ [];
-      ledger = entry 18 2 ∷ entry 30 2 ∷ [];
+      ledger = entry 18 2 1 ∷ entry 30 2 2 ∷ [];
     }
 
 unfoldable pub cut : Run ours 32 cutState
@@ -346,10 +343,10 @@ freedState =
       words =
           32 ∷ 2 ∷ 26 ∷ 0 ∷ 0 ∷ 0 ∷ 0 ∷ 0
           ∷ 0 ∷ 0 ∷ 0 ∷ 0 ∷ 0 ∷ 0 ∷ 0 ∷ 0
-          ∷ 4 ∷ 4294967295 ∷ 5 ∷ 7 ∷ 8 ∷ 0 ∷ 0 ∷ 9
-          ∷ 4 ∷ 0 ∷ 5 ∷ 7 ∷ 4 ∷ 4294967295 ∷ 0 ∷ 0
+          ∷ 4 ∷ 2147483649 ∷ 5 ∷ 7 ∷ 8 ∷ 0 ∷ 0 ∷ 9
+          ∷ 4 ∷ 0 ∷ 5 ∷ 7 ∷ 4 ∷ 2147483650 ∷ 0 ∷ 0
           ∷ [];
-      ledger = entry 30 2 ∷ [];
+      ledger = entry 30 2 2 ∷ [];
     }
 
 unfoldable pub freed : Run ours 32 freedState
@@ -377,7 +374,7 @@ nine-stored = just moved 18 5 9 nine-allowed
 
 pub nine-cut : Cut ours (call (realloc 18 1)) filledState 18 5
 unfolding regrantBy arenaGate requestGate sound chunksOf walked walkFrom walk meet lowest
-nine-cut = (refl, refl, omega arith)
+nine-cut = (1, (refl, refl), omega arith)
 
 -- and the block ends when it is freed
 pub block-ended : Ended ours (call (free 18)) cutState 18
@@ -398,11 +395,11 @@ shorterState =
     record {
       words =
           32 ∷ 2 ∷ 10 ∷ 16 ∷ 0 ∷ 0 ∷ 0 ∷ 0
-          ∷ 0 ∷ 0 ∷ 0 ∷ 0 ∷ 4 ∷ 4294967295 ∷ 5 ∷ 7
+          ∷ 0 ∷ 0 ∷ 0 ∷ 0 ∷ 4 ∷ 2147483649 ∷ 5 ∷ 7
           ∷ 12 ∷ 0 ∷ 5 ∷ 7 ∷ 0 ∷ 0 ∷ 0 ∷ 0
-          ∷ 4 ∷ 0 ∷ 5 ∷ 7 ∷ 4 ∷ 4294967295 ∷ 0 ∷ 0
+          ∷ 4 ∷ 0 ∷ 5 ∷ 7 ∷ 4 ∷ 2147483650 ∷ 0 ∷ 0
           ∷ [];
-      ledger = entry 14 2 ∷ entry 30 2 ∷ [];
+      ledger = entry 14 2 1 ∷ entry 30 2 2 ∷ [];
     }
 
 unfoldable pub shortened : Run ours 32 shorterState
@@ -415,11 +412,11 @@ grownState =
     record {
       words =
           32 ∷ 2 ∷ 10 ∷ 18 ∷ 0 ∷ 0 ∷ 0 ∷ 0
-          ∷ 0 ∷ 0 ∷ 0 ∷ 0 ∷ 6 ∷ 4294967295 ∷ 5 ∷ 7
+          ∷ 0 ∷ 0 ∷ 0 ∷ 0 ∷ 6 ∷ 2147483651 ∷ 5 ∷ 7
           ∷ 12 ∷ 0 ∷ 10 ∷ 0 ∷ 0 ∷ 0 ∷ 0 ∷ 0
-          ∷ 4 ∷ 0 ∷ 5 ∷ 7 ∷ 4 ∷ 4294967295 ∷ 0 ∷ 0
+          ∷ 4 ∷ 0 ∷ 5 ∷ 7 ∷ 4 ∷ 2147483650 ∷ 0 ∷ 0
           ∷ [];
-      ledger = entry 14 4 ∷ entry 30 2 ∷ [];
+      ledger = entry 14 4 3 ∷ entry 30 2 2 ∷ [];
     }
 
 unfoldable pub grown : Run ours 32 grownState
@@ -432,6 +429,23 @@ pub halves-answers : answers grown ≡ answers stored ++ record { code = 8; valu
 unfolding startOn allocBy regrantBy arenaGate requestGate sound chunksOf walked walkFrom walk meet lowest written write header held stored halves
     shortened grown
 halves-answers = refl
+
+-- ---- what was asked for last, and what size answers
+
+-- block 18 of the move was asked for with 6 words, and block 30 is still that of 2
+pub six-asked : AskedLast ours 32 movedState 18 6
+unfolding regrantBy arenaGate requestGate sound chunksOf walked walkFrom walk meet lowest joined copied written write header enter strike
+six-asked = just-asked stored (call (realloc 26 6)) tt 6 (inr (26, (refl, refl)))
+
+-- the resize asked for 3
+pub three-asked : AskedLast ours 32 grownState 14 3
+unfolding regrantBy arenaGate requestGate sound chunksOf walked walkFrom walk meet lowest joined written write header enter strike
+three-asked = just-asked shortened (call (resize 14 3)) tt 3 (inr (14, (refl, refl)))
+
+-- of 4 words, and block 30 has 2 that were asked for
+pub sizes-answered : (ours (size 14) (grownState .words) .answer ≡ success (3 ∷ 4 ∷ [])) × (ours (size 30) (grownState .words) .answer ≡ success (2 ∷ 2 ∷ []))
+unfolding sizeOn arenaGate sound chunksOf walked walkFrom walk meet lowest
+sizes-answered = (refl, refl)
 
 -- ---- the picture of the arena after the move: it is written, mailed, and read back
 
@@ -454,11 +468,16 @@ mailed-gaps = refl
 -- whoever reads it knows what block 18 holds
 pub seven-mailed : StoredLast ours 32 movedState 18 1 7
 unfolding readOn said pictureOf framesFrom line wordsIn standingFrom same upper worth glyph arenaGate sound chunksOf walked walkFrom walk meet
-seven-mailed = pictured (record { words = replicate 32 0; ledger = [] }) picture mailed refl 18 1 (entry 18 6, inl refl, refl, omega arith)
+seven-mailed = pictured (record { words = replicate 32 0; ledger = [] }) picture mailed refl 18 1 (entry 18 6 6, inl refl, refl, omega arith)
+
+-- and that 6 words were asked for
+pub six-mailed : AskedLast ours 32 movedState 18 6
+unfolding readOn said pictureOf framesFrom line wordsIn standingFrom same upper worth glyph arenaGate sound chunksOf walked walkFrom walk meet
+six-mailed = just-pictured (record { words = replicate 32 0; ledger = [] }) picture mailed refl (entry 18 6 6) (inl refl)
 
 -- without its last byte it is not read and changes nothing; then block 18 is freed
 abbrev releasedState : State
-releasedState = record { words = set (set (movedState .words) 2 26) 3 0; ledger = entry 30 2 ∷ [] }
+releasedState = record { words = set (set (movedState .words) 2 26) 3 0; ledger = entry 30 2 2 ∷ [] }
 
 unfoldable pub released : Run ours 32 releasedState
 unfolding readOn said pictureOf framesFrom line wordsIn standingFrom same upper worth glyph freeOn arenaGate sound chunksOf walked walkFrom walk meet
@@ -476,7 +495,7 @@ nine-ended = (refl, inr (_, refl))
 
 pub zero-restored : StoredLast ours 32 movedState 18 5 0
 unfolding readOn said pictureOf framesFrom line wordsIn standingFrom same upper worth glyph arenaGate sound chunksOf walked walkFrom walk meet
-zero-restored = pictured filledState picture restored refl 18 5 (entry 18 6, inl refl, refl, omega arith)
+zero-restored = pictured filledState picture restored refl 18 5 (entry 18 6 6, inl refl, refl, omega arith)
 
 -- the picture's length; and of the run that it begins, the two readings and the free
 pub picture-answers : (answers drawn ≡ answers moved ++ success (291 ∷ []) ∷ [])

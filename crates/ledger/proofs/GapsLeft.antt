@@ -71,23 +71,23 @@ module _ (policies : Policies) (fitting : AllFitting policies) where
 
   -- a block of the ledger is a chunk, with its header
   listed-crumbs : (calls : ℕ → Call)
-      → ((a : List ℕ) (b : ℕ) (pre : List Chunk) (s : ℕ) (post : List Chunk) → BlockAt a b pre s post
+      → ((a : List ℕ) (b : ℕ) (pre : List Chunk) (s asked : ℕ) (post : List Chunk) → BlockAt a b pre s asked post
       → crumbsOf (libraryBy policies (calls b) a .words) ≤ crumb s + crumbsOf a)
       → OneCrumbMore (libraryBy policies) calls
   listed-crumbs calls few n s run e listed =
       let g = run-agrees policies fitting run in
       let (above, k) = listed-chunked n (s .words) (s .ledger) g e listed in
       rw (block-whole n (s .words) (s .ledger) g above e k)
-      (by-arena run (calls (e .block)) (crumb (k .s)) (few (s .words) (e .block) (k .pre) (k .s) (k .post) (chunked-block k)))
+      (by-arena run (calls (e .block)) (crumb (k .s)) (few (s .words) (e .block) (k .pre) (k .s) (k .asked) (k .post) (chunked-block k)))
 
   pub crumbs-after-free : OneCrumbMore (libraryBy policies) free
   crumbs-after-free = listed-crumbs free free-crumbs
 
   pub crumbs-after-relocate : (w : ℕ) → OneCrumbMore (libraryBy policies) (λ b. relocate b w)
-  crumbs-after-relocate w = listed-crumbs (λ b. relocate b w) (λ a b pre s post is. relocate-crumbs a b pre s post is w)
+  crumbs-after-relocate w = listed-crumbs (λ b. relocate b w) (λ a b pre s asked post is. relocate-crumbs a b pre s asked post is w)
 
   pub crumbs-after-realloc : (w : ℕ) → OneCrumbMore (libraryBy policies) (λ b. realloc b w)
-  crumbs-after-realloc w = listed-crumbs (λ b. realloc b w) (λ a b pre s post is. realloc-crumbs a b pre s post is w)
+  crumbs-after-realloc w = listed-crumbs (λ b. realloc b w) (λ a b pre s asked post is. realloc-crumbs a b pre s asked post is w)
 
   -- ---- a grant beyond its need
 
@@ -113,9 +113,9 @@ module _ (policies : Policies) (fitting : AllFitting policies) where
   pub resize-need-or-room : NeedOrRoom (libraryBy policies) resize
   resize-need-or-room n s run below above e q w done stays =
       let k = chunk n s run below above e q in
-      or-room n s run below above e q (need w) _ (resize-whole (s .words) (e .block) (k .pre) (k .s) (k .post) (chunked-block k) w done)
+      or-room n s run below above e q (need w) _ (resize-whole (s .words) (e .block) (k .pre) (k .s) (k .asked) (k .post) (chunked-block k) w done)
 
   pub realloc-need-or-room : NeedOrRoom (libraryBy policies) realloc
   realloc-need-or-room n s run below above e q w done stays =
       let k = chunk n s run below above e q in
-      or-room n s run below above e q (need w) _ (realloc-whole (s .words) (e .block) (k .pre) (k .s) (k .post) (chunked-block k) w done stays)
+      or-room n s run below above e q (need w) _ (realloc-whole (s .words) (e .block) (k .pre) (k .s) (k .asked) (k .post) (chunked-block k) w done stays)

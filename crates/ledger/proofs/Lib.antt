@@ -14,6 +14,7 @@ pub mod Stores
 pub mod Onward
 pub mod Runs
 pub mod Lasting
+pub mod AskedLast
 pub mod Demands
 pub mod GapsLeft
 pub mod Promises

@@ -25,15 +25,15 @@ use Rattle.ledger.proofs.Agreeing.{Agrees, agrees-laid, block-listed}
 use Rattle.ledger.proofs.Going.{Goes, written-listed, freed-goes, newEntry, granted-lists, granted-laid, granted-fresh, granted-lawful}
 
 module _ (n : ℕ) (a : List ℕ) (ledger : Ledger) (g : Agrees n a ledger)
-    (b : ℕ) (pre : List Chunk) (s : ℕ) (post : List Chunk) (is : BlockAt a b pre s post)
-    (before : List Chunk) (t : ℕ) (after : List Chunk) (needed : ℕ) (same : chunksOf a ≡ before ++ free t ∷ after) (nd : Needed needed)
+    (b : ℕ) (pre : List Chunk) (s asked : ℕ) (post : List Chunk) (is : BlockAt a b pre s asked post)
+    (before : List Chunk) (t : ℕ) (after : List Chunk) (needed w : ℕ) (same : chunksOf a ≡ before ++ free t ∷ after) (nd : Needed needed w)
     (enough : needed ≤ t)
     (count : ℕ) (shorter : count ≡ min (s - headerWords) (taken needed t - headerWords)) where
   abbrev new : Entry
-  new = newEntry before t needed
+  new = newEntry before t needed w
 
   abbrev granted : List Chunk
-  granted = before ++ (cut needed t ++ after)
+  granted = before ++ (cut needed w t ++ after)
 
   -- the words once the need was granted and the words were copied
   abbrev copiedWords : List ℕ
@@ -44,16 +44,16 @@ module _ (n : ℕ) (a : List ℕ) (ledger : Ledger) (g : Agrees n a ledger)
   both = enter new ledger
 
   both-lists : both ≡ blocksFrom firstChunk granted
-  both-lists = granted-lists n a ledger g before t after needed same nd enough
+  both-lists = granted-lists n a ledger g before t after needed w same nd enough
 
   both-laid : Laid firstChunk n both
-  both-laid = granted-laid n a ledger g before t after needed same nd enough
+  both-laid = granted-laid n a ledger g before t after needed w same nd enough
 
   -- a word of a block of both, before the copy
   before-copy : (e : Entry) → Listed both e → (i : ℕ) → i < e .granted → getD (written granted a) (e .block + i) 0 ≡ getD a (e .block + i) 0
-  before-copy e l = written-listed granted a (granted-lawful n a ledger g before t after needed same nd enough .sizes) e (rw both-lists at l)
+  before-copy e l = written-listed granted a (granted-lawful n a ledger g before t after needed w same nd enough .sizes) e (rw both-lists at l)
 
-  module _ (r : StillThere copiedWords b s granted) where
+  module _ (r : StillThere copiedWords b s asked granted) where
     both-agree : Agrees n copiedWords both
     both-agree =
         record {
@@ -64,14 +64,14 @@ module _ (n : ℕ) (a : List ℕ) (ledger : Ledger) (g : Agrees n a ledger)
 
     -- the old block is freed
     freed : Goes n copiedWords both (λ c. c) (written (joined (r .2 ++ free s ∷ r .3)) copiedWords) (strike b both)
-    freed = freed-goes n copiedWords both both-agree b (r .2) s (r .3) (record { same = r .1 ∙ r .4 .same; number-is = r .4 .number-is })
+    freed = freed-goes n copiedWords both both-agree b (r .2) s asked (r .3) (record { same = r .1 ∙ r .4 .same; number-is = r .4 .number-is })
 
-    old-listed : Listed ledger (record { block = b; granted = s - headerWords })
-    old-listed = block-listed n a ledger g b pre s post is
+    old-listed : Listed ledger (record { block = b; granted = s - headerWords; asked = asked })
+    old-listed = block-listed n a ledger g b pre s asked post is
 
     -- the new block is another
     new-other : new .block ≢ b
-    new-other q = granted-fresh n a ledger g before t after needed same nd enough _ old-listed (sym q)
+    new-other q = granted-fresh n a ledger g before t after needed w same nd enough _ old-listed (sym q)
 
     -- the entry of its number has its words
     new-long : (f : Entry) → Listed both f → f .block ≡ new .block → f .granted ≡ new .granted
@@ -109,7 +109,7 @@ module _ (n : ℕ) (a : List ℕ) (ledger : Ledger) (g : Agrees n a ledger)
     carried-on e f l m true q p i h j =
         ap (λ (c : ℕ). getD copiedWords (c + i) 0) p ∙ copied-new e l (eqb-true (e .block) b q) i h (omega (arith, new-long f m p))
     carried-on e f l m false q p i h j =
-        copied-beside f m (λ u. granted-fresh n a ledger g before t after needed same nd enough e l (sym p ∙ u)) i j
+        copied-beside f m (λ u. granted-fresh n a ledger g before t after needed w same nd enough e l (sym p ∙ u)) i j
         ∙ ap (λ (c : ℕ). getD a (c + i) 0) p
 
     pub moved-goes : Goes n a ledger (λ c. cond (eqb c b) (new .block) c) (written (released (held b granted)) copiedWords)

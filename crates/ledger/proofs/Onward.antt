@@ -10,10 +10,10 @@ use borrow.Author.Tests.{eqb-true, eqb-false, leb-true, leb-false}
 use Rattle.rules.specs.Answers.{Answer}
 use Rattle.rules.specs.Libraries.{Library}
 use Rattle.ledger.specs.Events.{Event}
-use Rattle.ledger.specs.Ledger.{Entry, Ledger, enter, strike, Effect, renews, grants, frees, regrants, spares, effect, told, noted, Done}
+use Rattle.ledger.specs.Ledger.{Entry, Ledger, enter, strike, Effect, renews, grants, frees, regrants, spares, effect, told, entryFor, noted, Done}
 use Rattle.ledger.specs.Ledger.{Listed, Held}
 use Rattle.ledger.specs.Runs.{State, answerTo, after}
-use Rattle.ledger.specs.Holders.{renamed, numberAfter, Ended, Cut}
+use Rattle.ledger.specs.Holders.{renamed, numberAfter, Ended, Anew, Cut}
 use Rattle.ledger.proofs.Entries.{enter-listed, listed-enter, listed-strike}
 
 module _ (library : Library) (event : Event) (s : State) where
@@ -21,7 +21,7 @@ module _ (library : Library) (event : Event) (s : State) where
   pub data Onward (e : Entry) (then : Ledger) (b : ℕ) : Type 0 where
     ends : Ended library event s (e .block) → Onward e then b
     stays : Listed then e → e .block ≡ b → Onward e then b
-    changes : Done (answerTo library event s) → effect event ≡ regrants (e .block) → Listed then (told (answerTo library event s))
+    changes : (w : ℕ) → Anew library event s (e .block) w → Listed then (entryFor w (answerTo library event s))
         → told (answerTo library event s) .block ≡ b → Onward e then b
 
   module _ (e : Entry) (l : Listed (s .ledger) e) where
@@ -32,17 +32,18 @@ module _ (library : Library) (event : Event) (s : State) where
     done-onward : Done answer → (what : Effect) → effect event ≡ what → Onward e (noted what answer (s .ledger)) (renamed what answer (e .block))
     unfolding answer
     done-onward z (renews blocks) p = ends (z, inr (blocks, p))
-    done-onward z grants p = stays (listed-enter (told answer) (s .ledger) e l) refl
+    done-onward z (grants w) p = stays (listed-enter (entryFor w answer) (s .ledger) e l) refl
     done-onward z (frees c) p = go (eqb (e .block) c) refl
       where
         go : (own : Bool) → eqb (e .block) c ≡ own → Onward e (strike c (s .ledger)) (e .block)
         go true q = ends (z, inl (p ∙ ap frees (sym (eqb-true (e .block) c q))))
         go false q = stays (listed-strike c (s .ledger) e (eqb-false (e .block) c q) l) refl
-    done-onward z (regrants c) p = go (eqb (e .block) c) refl
+    done-onward z (regrants c w) p = go (eqb (e .block) c) refl
       where
-        go : (own : Bool) → eqb (e .block) c ≡ own → Onward e (enter (told answer) (strike c (s .ledger))) (cond own (told answer .block) (e .block))
-        go true q = changes z (p ∙ ap regrants (sym (eqb-true (e .block) c q))) (enter-listed (told answer) (strike c (s .ledger))) refl
-        go false q = stays (listed-enter (told answer) (strike c (s .ledger)) e (listed-strike c (s .ledger) e (eqb-false (e .block) c q) l)) refl
+        go : (own : Bool) → eqb (e .block) c ≡ own → Onward e (enter (entryFor w answer) (strike c (s .ledger))) (cond own (told answer .block) (e .block))
+        go true q =
+            changes w (z, p ∙ ap (λ (d : ℕ). regrants d w) (sym (eqb-true (e .block) c q))) (enter-listed (entryFor w answer) (strike c (s .ledger))) refl
+        go false q = stays (listed-enter (entryFor w answer) (strike c (s .ledger)) e (listed-strike c (s .ledger) e (eqb-false (e .block) c q) l)) refl
     done-onward z spares p = stays l refl
 
     pub onward : Onward e (after library event s .ledger) (numberAfter library event s (e .block))
@@ -60,15 +61,15 @@ module _ (library : Library) (event : Event) (s : State) where
       → Held (after library event s .ledger) (numberAfter library event s b) i
   still-held b i (e, l, q, h) unended uncut = rw (← q) (go (onward e l))
     where
-      within : Done (answerTo library event s) → effect event ≡ regrants (e .block) → i < told (answerTo library event s) .granted
-      within z p = cases (leb (i + 1) (told (answerTo library event s) .granted)) refl
+      within : (w : ℕ) → Anew library event s (e .block) w → i < told (answerTo library event s) .granted
+      within w anew = cases (leb (i + 1) (told (answerTo library event s) .granted)) refl
         where
           cases : (reached : Bool) → leb (i + 1) (told (answerTo library event s) .granted) ≡ reached → i < told (answerTo library event s) .granted
           cases true r = omega (arith, leb-true (i + 1) (told (answerTo library event s) .granted) r)
-          cases false r = absurd (uncut (z, p ∙ ap regrants q, omega (arith, leb-false (i + 1) (told (answerTo library event s) .granted) r)))
+          cases false r = absurd (uncut (w, rw q at anew, omega (arith, leb-false (i + 1) (told (answerTo library event s) .granted) r)))
 
       go : Onward e (after library event s .ledger) (numberAfter library event s (e .block))
           → Held (after library event s .ledger) (numberAfter library event s (e .block)) i
       go (ends end) = absurd (unended (rw q at end))
       go (stays m r) = (e, m, r, h)
-      go (changes z p m r) = (told (answerTo library event s), m, r, within z p)
+      go (changes w anew m r) = (entryFor w (answerTo library event s), m, r, within w anew)

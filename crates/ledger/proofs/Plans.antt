@@ -17,7 +17,7 @@ use Rattle.rules.specs.Fits.{Policies}
 use Rattle.rules.specs.Picks.{AllFitting}
 use Rattle.rules.proofs.Searches.{block-sizes}
 use Rattle.ledger.specs.Events.{Event, call, store}
-use Rattle.ledger.specs.Ledger.{Entry, Ledger, Effect, renews, grants, frees, regrants, spares, effect, told, noted, Done, Listed, heldWords}
+use Rattle.ledger.specs.Ledger.{Entry, Ledger, Effect, renews, grants, frees, regrants, spares, effect, entryFor, noted, Done, Listed, heldWords}
 use Rattle.ledger.specs.Runs.{State, Run, answerTo, begun, arrived, next}
 use Rattle.ledger.specs.Demands.{Known}
 use Rattle.ledger.specs.Promises.{PromiseByLedger}
@@ -50,7 +50,7 @@ pub even-grants : (policies : Policies) → AllFitting policies → EvenGrants (
 even-grants policies fitting n s run e listed =
     let g = run-agrees policies fitting run in
     let (above, k) = listed-chunked n (s .words) (s .ledger) g e listed in
-    let sizes = block-sizes (s .words) _ _ _ _ (g .is-sound) (chunked-block k) in
+    let sizes = block-sizes (s .words) _ _ _ _ _ (g .is-sound) (chunked-block k) in
     omega (arith, sizes .0, block-whole n (s .words) (s .ledger) g above e k)
 
 -- ---- few blocks, and no long requests, by any library that keeps the promise and whose grants are even
@@ -66,18 +66,18 @@ module _ (library : Library) (known : Known library) (most : ℕ) where
   -- what an event that is done enters in the ledger is so short
   abbrev EntersSmall : Effect → Answer → Type 0
   EntersSmall (renews blocks) answer = AllSmall blocks
-  EntersSmall grants answer = Small (told answer)
+  EntersSmall (grants w) answer = Small (entryFor w answer)
   EntersSmall (frees b) answer = Unit {0}
-  EntersSmall (regrants b) answer = Small (told answer)
+  EntersSmall (regrants b w) answer = Small (entryFor w answer)
   EntersSmall spares answer = Unit {0}
 
   noted-small : (change : Effect) (answer : Answer) → EntersSmall change answer → (ledger : Ledger) → AllSmall ledger
       → AllSmall (noted change answer ledger)
   noted-small (renews blocks) answer new ledger old e l = new e l
-  noted-small grants answer new ledger old e l = ⊎-elim (λ q. rw (← q) new) (old e) (listed-entered (told answer) ledger e l)
+  noted-small (grants w) answer new ledger old e l = ⊎-elim (λ q. rw (← q) new) (old e) (listed-entered (entryFor w answer) ledger e l)
   noted-small (frees b) answer new ledger old e l = old e (listed-struck b ledger e l .1)
-  noted-small (regrants b) answer new ledger old e l =
-      ⊎-elim (λ q. rw (← q) new) (λ m. old e (listed-struck b ledger e m .1)) (listed-entered (told answer) _ e l)
+  noted-small (regrants b w) answer new ledger old e l =
+      ⊎-elim (λ q. rw (← q) new) (λ m. old e (listed-struck b ledger e m .1)) (listed-entered (entryFor w answer) _ e l)
   noted-small spares answer new ledger old e l = old e l
 
   module _ {n : ℕ} {s : State} (run : Run library n s) where

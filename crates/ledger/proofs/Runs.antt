@@ -69,7 +69,7 @@ module _ (policies : Policies) (fitting : AllFitting policies) where
             → Ended (libraryBy policies) event s (e .block) ⊎ GoesOn (libraryBy policies) s event e
         go words (ends end) = inl end
         go words (stays m q) = inr (goes-on words e m q)
-        go words (changes z p m q) = inr (goes-on words _ m q)
+        go words (changes w anew m q) = inr (goes-on words _ m q)
 
   -- ---- every run
 

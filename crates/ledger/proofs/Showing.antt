@@ -114,11 +114,11 @@ alloc-grants : (a : List ℕ) (w : ℕ) (values after : List ℕ) → Allots a w
 alloc-grants a w values after (allots e r pre s post (same, enough)) = need-taken w s enough
 
 resize-grants : (a : List ℕ) (b w : ℕ) (values after : List ℕ) → Resizes a b w values after → HasNeed w (headerWords + told (success values) .granted)
-resize-grants a b w values after (resizes e r pre s post is keep k) = omega (arith, kept-numbers (need w) s keep post k)
+resize-grants a b w values after (resizes e r pre s asked post is keep k) = omega (arith, kept-numbers (need w) s keep post k)
 
 relocate-grants : (a : List ℕ) (b w : ℕ) (values after : List ℕ) → Relocates a b w values after
     → HasNeed w (headerWords + told (success values) .granted)
-relocate-grants a b w values after (moves e r pre s post is before t behind gap block at-is ks same count shorter) = need-taken w t (gap .1)
+relocate-grants a b w values after (moves e r pre s asked post is before t behind gap block at-is ks same count shorter) = need-taken w t (gap .1)
 
 realloc-grants : (a : List ℕ) (b w : ℕ) (values after : List ℕ) → Regrants a b w values after
     → HasNeed w (headerWords + told (success values) .granted)
@@ -144,18 +144,18 @@ module _ (n : ℕ) (a : List ℕ) (ledger : Ledger) (agrees : Agrees n a ledger)
       rw (report-answers a (agrees .is-sound), agrees .lists)
       (omega (arith, blocks-words firstChunk (chunksOf a) (law .sizes), law .fills))
 
-  sized : (e : Entry) → Listed ledger e → sizeOn a (e .block) .answer ≡ success (e .granted ∷ [])
+  sized : (e : Entry) → Listed ledger e → sizeOn a (e .block) .answer ≡ success (e .asked ∷ e .granted ∷ [])
   unfolding sizeOn
   sized e listed =
       let (above, k) = listed-chunked n a ledger agrees e listed in
-      rw (sound-gate a (agrees .is-sound), block-held a (e .block) (k .pre) (k .s) (k .post) (agrees .is-sound) (chunked-block k))
-      (ap (λ (f : Entry). success (f .granted ∷ [])) (sym (k .is)))
+      rw (sound-gate a (agrees .is-sound), block-held a (e .block) (k .pre) (k .s) (k .asked) (k .post) (agrees .is-sound) (chunked-block k))
+      (ap (λ (f : Entry). success (f .asked ∷ f .granted ∷ [])) (sym (k .is)))
 
   freed : (e : Entry) → Listed ledger e → freeOn a (e .block) .answer .code ≡ 0
   unfolding freeOn
   freed e listed =
       let (above, k) = listed-chunked n a ledger agrees e listed in
-      rw (sound-gate a (agrees .is-sound), block-held a (e .block) (k .pre) (k .s) (k .post) (agrees .is-sound) (chunked-block k))
+      rw (sound-gate a (agrees .is-sound), block-held a (e .block) (k .pre) (k .s) (k .asked) (k .post) (agrees .is-sound) (chunked-block k))
 
   viewed : (e : Entry) → Listed ledger e → viewOn a (e .block) ≡ take (e .granted) (drop (e .block) a)
   unfolding viewOn

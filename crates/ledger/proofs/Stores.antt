@@ -37,7 +37,7 @@ module _ (n : ℕ) (a : List ℕ) (ledger : Ledger) (g : Agrees n a ledger) wher
         let block : e .block ≡ firstChunk + total (k .pre) + headerWords = ap (λ (d : Entry). d .block) (k .is) in
         let words : e .granted ≡ k .s - headerWords = ap (λ (d : Entry). d .granted) (k .is) in
         let arena = rw (k .same) at (sound-chunks a (g .is-sound)) in
-        let stored = store-inside a (k .pre) (live (k .s)) (k .post) (firstChunk + total (k .pre)) (b + i) arena refl (omega arith) (omega arith) v in
+        let stored = store-inside a (k .pre) (live (k .s) (k .asked)) (k .post) (firstChunk + total (k .pre)) (b + i) arena refl (omega arith) (omega arith) v in
         record {
           is-sound = arena-sound _ _ stored;
           long = length-set a (b + i) v ∙ g .long;

@@ -13,7 +13,8 @@ use Rattle.layout.specs.Numbers.{controlWords, headerWords, lawful, greatestReq
 use Rattle.layout.specs.Chunks.{header, write, written}
 use Rattle.layout.specs.Walk.{meet, walk, walkFrom, walked, sound, chunksOf}
 use Rattle.layout.specs.Reasons.{arenaGate, requestGate}
-use Rattle.rules.specs.Answers.{Answer, Outcome, success, freeWordsIn, liveBlocksIn, freeChunksIn}
+use Rattle.layout.proofs.Bools.{clash}
+use Rattle.rules.specs.Answers.{Answer, Outcome, success, grantedField, freeWordsIn, liveBlocksIn, freeChunksIn}
 use Rattle.rules.specs.Pictures.{pictureOf, pictureLength, Says}
 use Rattle.rules.specs.Spots.{lowest}
 use Rattle.rules.specs.Rules.{joined, copied}
@@ -28,14 +29,13 @@ use Rattle.rules.proofs.Pictures.{picture-length}
 use Rattle.rules.proofs.Saying.{said-says, picture-says}
 use Rattle.ledger.specs.Events.{call, store}
 use Rattle.ledger.specs.Gaps.{hole, RoomShorter}
-use Rattle.ledger.specs.Ledger.{Entry, enter, strike, told, Done, Held, begins, ends}
+use Rattle.ledger.specs.Ledger.{Entry, enter, strike, told, entryFor, Done, Held, begins, ends}
 use Rattle.ledger.specs.Runs.{State, Allowed, after, Run, begun, arrived, next}
 use Rattle.ledger.specs.Holders.{just, pictured, still}
 use Rattle.ledger.specs.Demands.{Starts, Receives, Lengths, Apart, Inside, Keeps, Lasts, Sums, RoomForAlloc, RoomForResize, RoomForRelocate}
 use Rattle.ledger.specs.Demands.{RoomForRealloc, ShrinksToNeed, NoMoreCrumbs, NeedOrGap, NeedOrRoom, Known}
 use Rattle.ledger.specs.Promises.{FreeChunksAreHoles, PromiseByLedger}
 use Rattle.ledger.proofs.Gaps.{a-hole}
-use Rattle.ledger.proofs.Examples.{clash}
 
 -- ---- what the room rule asks of a new arena, whichever fit it is about: its first alloc is done
 
@@ -48,7 +48,7 @@ module _ (fit : Fit) where
         Run library (length a)
         (record {
           words = library (alloc fit w) (library start a .words) .words;
-          ledger = told
+          ledger = entryFor w
               (library (alloc fit w) (library start a .words) .answer) ∷ [];
         })
 
@@ -71,7 +71,7 @@ module _ (fit : Fit) where
 
   -- if the library grants enough, the block in the 6 words has room for the words that it has
   own-room : (library : Library) → RoomForAlloc library (alloc fit) → Known library
-      → RoomShorter (need 2) 6 (told (library (alloc fit 2) (library start (replicate 6 0) .words) .answer)) [] → ⊥
+      → RoomShorter (need 2) 6 (entryFor 2 (library (alloc fit 2) (library start (replicate 6 0) .words) .answer)) [] → ⊥
   own-room library room known short = let o = in-six library room in omega (arith, short, known 6 _ (o .started) .alloc-grants fit 2 (o .done))
 
 -- ---- one that refuses everything
@@ -113,7 +113,7 @@ module _ (fit : Fit) where
         arith,
         is,
         same,
-        apart 32 _ twice [] [] [] (told (second .answer)) (told (first .answer))
+        apart 32 _ twice [] [] [] (entryFor 2 (second .answer)) (entryFor 2 (first .answer))
             (rw (le-leb (told (second .answer) .block) (told (first .answer) .block) (omega arith))),
       )
 
@@ -130,7 +130,7 @@ module _ (fit : Fit) where
   writes-nothing library nothing room inside apart =
       let o = in-six fit library room in
       let a = library start (replicate 6 0) .words in
-      let e = told (library (alloc fit 2) a .answer) in
+      let e = entryFor 2 (library (alloc fit 2) a .answer) in
       let z : (2 ≤ begins e) × (ends e ≤ 6) = inside 6 _ (o .once) e (inl refl) in
       omega (
         arith,
@@ -276,7 +276,7 @@ module _ (fit : Fit) where
       o = has-once fit library room (replicate 12 0) 2 refl (omega arith)
 
       e : Entry
-      e = told (library (alloc fit 2) (library start (replicate 12 0) .words) .answer)
+      e = entryFor 2 (library (alloc fit 2) (library start (replicate 12 0) .words) .answer)
 
       below : ℕ
       below = begins e - 2
@@ -319,7 +319,7 @@ module _ (fit : Fit) where
       o = in-thirty-two fit library room
 
       e : Entry
-      e = told (library (alloc fit 2) (library start (replicate 32 0) .words) .answer)
+      e = entryFor 2 (library (alloc fit 2) (library start (replicate 32 0) .words) .answer)
 
       six : headerWords + e .granted ≡ need 2 + 6
       six = beyond 2 _ (o .done)
@@ -396,7 +396,7 @@ record OnlyResized (library : Library) (n : ℕ) (words : List ℕ) (e : Entry) 
   done : Done (library (resize (e .block) w) words .answer)
   stays : told (library (resize (e .block) w) words .answer) .block ≡ e .block
   run : Run library n
-      (record { words = library (resize (e .block) w) words .words; ledger = told (library (resize (e .block) w) words .answer) ∷ [] })
+      (record { words = library (resize (e .block) w) words .words; ledger = entryFor w (library (resize (e .block) w) words .answer) ∷ [] })
 
 only-resized : (library : Library) → Known library → RoomForResize library resize → (n : ℕ) (words : List ℕ) (e : Entry)
     → Run library n (record { words = words; ledger = e ∷ [] }) → (w : ℕ) → LawfulRequest n w → (RoomShorter (need w) n e [] → ⊥)
@@ -422,17 +422,17 @@ pub resizes-to-the-need : (library : Library) → ResizesToTheNeed library → R
 unfolding enter strike
 resizes-to-the-need library exact room inside known resizes none =
     let o = has-once first-fit library room (replicate 12 0) 8 refl (omega arith) in
-    let e = told (library (alloc first-fit 8) (library start (replicate 12 0) .words) .answer) in
+    let e = entryFor 8 (library (alloc first-fit 8) (library start (replicate 12 0) .words) .answer) in
     let within : (2 ≤ begins e) × (ends e ≤ 12) = inside 12 _ (o .once) e (inl refl) in
     let enough = known 12 _ (o .started) .alloc-grants first-fit 8 (o .done) in
     let at-four : e .block ≡ 4 = omega (arith, within, enough) in
     let r = only-resized library known resizes 12 _ e (o .once) 2 (omega arith) (λ short. omega (arith, short, enough)) in
     let answer = library (resize (e .block) 2) (library (alloc first-fit 8) (library start (replicate 12 0) .words) .words) .answer in
-    let six : 12 - ends (told answer) ≡ 6 = omega (arith, r .stays, exact _ 2 _ (r .done), at-four) in
+    let six : 12 - ends (entryFor 2 answer) ≡ 6 = omega (arith, r .stays, exact _ 2 _ (r .done), at-four) in
     let low : begins e - 2 ≡ 0 = omega (arith, at-four) in
     let high : 12 - ends e ≡ 0 = omega (arith, within, enough, at-four) in
     let before : crumb (begins e - 2) + (crumb (12 - ends e) + 0) ≡ 0 = rw (low, high) refl in
-    let after-it : crumb (12 - ends (told answer)) ≡ 1 = rw six refl in
+    let after-it : crumb (12 - ends (entryFor 2 answer)) ≡ 1 = rw six refl in
     omega (arith, before, after-it, rw (r .done, eq-eqb (e .block) (e .block) refl) at (none (e .block) 12 _ (o .once)))
 
 -- a resize that is done grants six words beyond its need
@@ -446,7 +446,7 @@ pub resizes-six-beyond : (library : Library) → ResizesSixBeyond library → Ro
     → RoomForResize library resize → NeedOrRoom library resize → ⊥
 resizes-six-beyond library beyond room inside known resizes whole =
     let o = in-thirty-two first-fit library room in
-    let e = told (library (alloc first-fit 2) (library start (replicate 32 0) .words) .answer) in
+    let e = entryFor 2 (library (alloc first-fit 2) (library start (replicate 32 0) .words) .answer) in
     let within : (2 ≤ begins e) × (ends e ≤ 32) = inside 32 _ (o .once) e (inl refl) in
     let enough = known 32 _ (o .started) .alloc-grants first-fit 2 (o .done) in
     let two = only-resized library known resizes 32 _ e (o .once) 2 (omega arith) (λ short. omega (arith, short, enough)) in
@@ -493,7 +493,7 @@ resize-reallocates known =
 abbrev pub losesTwoWords : Library
 losesTwoWords =
     withResize (λ b w a.
-    let had = getD (ours (size b) a .answer .values) 0 0 in
+    let had = grantedField (ours (size b) a .answer .values) in
     let resized = ours (resize b w) a in
     cond (eqb (told (resized .answer) .granted + 2) had) (record { answer = success (b ∷ had ∷ []); words = a }) resized)
 
@@ -506,7 +506,7 @@ loses-two-words shrinks =
     next (next (next (begun (replicate 16 0) refl refl) (call (alloc first-fit 4)) tt) (call (alloc first-fit 4)) tt) (call (free 12)) tt in
     let granted : _≡_ {A = ℕ} 6 4 =
     ap (λ (answer : Answer). told answer .granted)
-    (shrinks 16 _ held [] [] (record { block = 4; granted = 6 }) refl 4 (omega arith) (omega arith) (omega arith)) in
+    (shrinks 16 _ held [] [] (record { block = 4; granted = 6; asked = 4 }) refl 4 (omega arith) (omega arith) (omega arith)) in
     omega arith
 
 -- ---- one that never relocates, and one that leaves the block where it is
@@ -526,7 +526,7 @@ a-relocate : (library : Library) → RoomForAlloc library (alloc first-fit) → 
     Done (library (relocate (told (first .answer) .block) 2) (first .words) .answer)
 a-relocate library room known relocates =
     let o = in-thirty-two first-fit library room in
-    let e = told (library (alloc first-fit 2) (library start (replicate 32 0) .words) .answer) in
+    let e = entryFor 2 (library (alloc first-fit 2) (library start (replicate 32 0) .words) .answer) in
     let small = known 32 _ (o .started) .alloc-grants first-fit 2 (o .done) in
     relocates 32 _ (o .once) e (inl refl) 2 (omega arith) .done .1 (λ short. omega (arith, short, small))
 
@@ -564,7 +564,7 @@ unfolding startOn allocBy regrantBy arenaGate requestGate sound chunksOf walked 
     strike
 copies-nothing keeps =
     let held : Run copiesNothing 20 _ = next (next (begun (replicate 20 0) refl refl) (call (alloc first-fit 2)) tt) (call (alloc first-fit 2)) tt in
-    let stored : Run copiesNothing 20 _ = next held (store 14 0 5) ((record { block = 14; granted = 2 }, inl refl, refl, omega arith), omega arith) in
+    let stored : Run copiesNothing 20 _ = next held (store 14 0 5) ((record { block = 14; granted = 2; asked = 2 }, inl refl, refl, omega arith), omega arith) in
     ⊎-elim
     (λ ended. ⊎-elim (λ is. clash cc) (λ is. clash cc) (ended .1))
     (λ goes.
@@ -573,7 +573,7 @@ copies-nothing keeps =
     ⊎-elim (λ is. rw (← is) (omega arith)) (⊎-elim (λ is. rw (← is) (omega arith)) (λ none. absurd none)) (goes .listed) in
     let lost : _≡_ {A = ℕ} 0 5 = rw moved at (goes .words-kept 0 (omega arith)) in
     omega arith)
-    (keeps 20 _ stored (call (realloc 14 4)) tt (record { block = 14; granted = 2 }) (inl refl))
+    (keeps 20 _ stored (call (realloc 14 4)) tt (record { block = 14; granted = 2; asked = 2 }) (inl refl))
 
 -- ---- one that clears a block when its size is asked
 
@@ -586,7 +586,7 @@ pub forgets : (library : Library) → Forgets library → RoomForAlloc library (
 forgets library zeroes room known lasts =
     let o = in-six first-fit library room in
     let a = library start (replicate 6 0) .words in
-    let e = told (library (alloc first-fit 2) a .answer) in
+    let e = entryFor 2 (library (alloc first-fit 2) a .answer) in
     let enough = known 6 _ (o .started) .alloc-grants first-fit 2 (o .done) in
     let held : Allowed (store (e .block) 0 5) (e ∷ []) = ((e, inl refl, refl, omega arith), omega arith) in
     let stored = next (o .once) (store (e .block) 0 5) held in
@@ -601,9 +601,9 @@ forgets library zeroes room known lasts =
 
 -- ---- one that never reads a picture, one that reads any text, and one that reads nothing
 
--- in a sound arena of 6 words, block 4 holds a 5
+-- in a sound arena of 6 words, block 4, for which 1 word was asked, holds a 5
 abbrev fiveHeld : List ℕ
-fiveHeld = 6 ∷ 0 ∷ 4 ∷ 4294967295 ∷ 5 ∷ 0 ∷ []
+fiveHeld = 6 ∷ 0 ∷ 4 ∷ 2147483649 ∷ 5 ∷ 0 ∷ []
 
 five-says : Says (pictureOf fiveHeld) fiveHeld
 five-says = picture-says fiveHeld (omega arith) (omega arith)
@@ -644,7 +644,7 @@ reads-nothing library nothing receives lasts =
     let done = a-reading library receives in
     let is = said-says text fiveHeld .1 five-says in
     let held : Held (after library (call (read text)) before .ledger) 4 0 =
-    rw (done, is) (record { block = 4; granted = 2 }, inl refl, refl, omega arith) in
+    rw (done, is) (record { block = 4; granted = 2; asked = 1 }, inl refl, refl, omega arith) in
     let last = pictured before text (arrived text (replicate 6 0) refl done) done 4 0 held in
     let five : getD (library (read text) (replicate 6 0) .words) 4 0 ≡ 5 = rw is at (lasts 6 _ 4 0 _ last) in
     let zero : getD (library (read text) (replicate 6 0) .words) 4 0 ≡ 0 = ap (λ (a : List ℕ). getD a 4 0) (nothing text (replicate 6 0)) in

@@ -65,7 +65,7 @@ module _ (n : ℕ) (a : List ℕ) (ledger : Ledger) (agrees : Agrees n a ledger)
   -- a block with its header is its chunk
   pub block-whole : (above : Ledger) (e : Entry) (k : Chunked firstChunk (chunksOf a) e above) → headerWords + e .granted ≡ k .s
   block-whole above e k =
-      omega (arith, block-sizes a _ _ _ _ (agrees .is-sound) (chunked-block k) .1, ap (λ (f : Entry). f .granted) (k .is))
+      omega (arith, block-sizes a _ _ _ _ _ (agrees .is-sound) (chunked-block k) .1, ap (λ (f : Entry). f .granted) (k .is))
 
   -- and with the gap right above it, its room
   pub block-room : (above : Ledger) (e : Entry) (k : Chunked firstChunk (chunksOf a) e above)
@@ -74,10 +74,10 @@ module _ (n : ℕ) (a : List ℕ) (ledger : Ledger) (agrees : Agrees n a ledger)
       let law = agrees-lawful n a ledger agrees in
       let whole = block-whole above e k in
       let end : ends e ≡ firstChunk + total (k .pre) + k .s = omega (arith, ap (λ (f : Entry). f .block) (k .is)) in
-      let fills = ap total (k .same) ∙ total-append (k .pre) (live (k .s) ∷ k .post) in
+      let fills = ap total (k .same) ∙ total-append (k .pre) (live (k .s) (k .asked) ∷ k .post) in
       rw (k .above-is, end, whole)
       (gap-above n (firstChunk + total (k .pre) + k .s) (k .s) (k .post) (omega (arith, law .fills))
-      (spaced-after false (k .pre) (k .s) (k .post) (rw (k .same) at (law .spaced))))
+      (spaced-after false (k .pre) (k .s) (k .asked) (k .post) (rw (k .same) at (law .spaced))))
 
   short-block : (below above : Ledger) (e : Entry) → ledger ≡ below ++ e ∷ above → (w : ℕ)
       → ShortBlock a (e .block) (need w) ↔ RoomShorter (need w) n e above
@@ -85,9 +85,10 @@ module _ (n : ℕ) (a : List ℕ) (ledger : Ledger) (agrees : Agrees n a ledger)
       let k = agrees-chunked n a ledger agrees below e above q in
       let is = chunked-block k in
       let own : ShortBlock a (e .block) (need w) ↔ Short (k .s) (k .post) (need w) = (
-        λ (pre, s, post, is′, short). let same = one-block a (e .block) (k .pre) pre (k .s) s (k .post) post (agrees .is-sound) is is′ in
+        λ (pre, s, asked, post, is′, short). let same = one-block a (e .block) (k .pre) pre (k .s) s (k .asked) asked (k .post) post
+            (agrees .is-sound) is is′ in
             rw (same .0, same .1) at short,
-        λ short. (k .pre, k .s, k .post, is, short),
+        λ short. (k .pre, k .s, k .asked, k .post, is, short),
       ) in
       rw (block-room above e k) (Iff·trans own (short-room (k .s) (k .post) (need w)))
 
@@ -108,14 +109,14 @@ module _ (n : ℕ) (a : List ℕ) (ledger : Ledger) (agrees : Agrees n a ledger)
       (λ h. gap .0 (h .1)) (λ h. absurd h) (λ short. (agrees .is-sound, (request, gap .1 short)))
 
   -- a call that grants a block of the ledger anew
-  regrant-room : (pre : List Chunk) (s : ℕ) (post : List Chunk) (b : ℕ) → BlockAt a b pre s post → (w : ℕ) → LawfulRequest n w
+  regrant-room : (pre : List Chunk) (s asked : ℕ) (post : List Chunk) (b : ℕ) → BlockAt a b pre s asked post → (w : ℕ) → LawfulRequest n w
       → (room stuck : Type 0) (last : Reason) (TooShort : Type 0) (answer : Answer)
       → (answer .code ≡ number last) ↔ RegrantRefused a b w room stuck last → Done answer ↔ ((why : Reason) → RegrantRefused a b w room stuck why → ⊥)
       → (room → TooShort) → (stuck → TooShort) → (TooShort → RegrantRefused a b w room stuck last)
       → RefusedWhen last TooShort answer
-  regrant-room pre s post b is w r room stuck last TooShort answer =
+  regrant-room pre s asked post b is w r room stuck last TooShort answer =
       let request = lawful-request w r in
-      refused-when a _ _ _ room stuck (agrees .is-sound) (λ none. none (pre, s, post, is)) (λ h. omega (arith, h .1))
+      refused-when a _ _ _ room stuck (agrees .is-sound) (λ none. none (pre, s, asked, post, is)) (λ h. omega (arith, h .1))
       (λ h. omega (arith, h .1)) last TooShort answer
 
   pub relocate-room : (e : Entry) → Listed ledger e → (w : ℕ) → LawfulRequest n w
@@ -124,16 +125,16 @@ module _ (n : ℕ) (a : List ℕ) (ledger : Ledger) (agrees : Agrees n a ledger)
       let gap = no-gap w in
       let (above, k) = listed-chunked n a ledger agrees e listed in
       let is = chunked-block k in
-      regrant-room (k .pre) (k .s) (k .post) (e .block) is w r _ _ _ _ _ (relocate-behaves a (e .block) w .refused NoRoom)
+      regrant-room (k .pre) (k .s) (k .asked) (k .post) (e .block) is w r _ _ _ _ _ (relocate-behaves a (e .block) w .refused NoRoom)
       (relocate-behaves a (e .block) w .done)
-      (λ h. gap .0 (h .2)) (λ h. absurd h) (λ short. (agrees .is-sound, (lawful-request w r, (k .pre, k .s, k .post, is), gap .1 short)))
+      (λ h. gap .0 (h .2)) (λ h. absurd h) (λ short. (agrees .is-sound, (lawful-request w r, (k .pre, k .s, k .asked, k .post, is), gap .1 short)))
 
   module _ (below above : Ledger) (e : Entry) (q : ledger ≡ below ++ e ∷ above) (w : ℕ) (r : LawfulRequest n w) where
     pub resize-room : RefusedWhen WouldMove (RoomShorter (need w) n e above) (resizeOn a (e .block) w .answer)
     resize-room =
         let own = short-block below above e q w in
         let k = agrees-chunked n a ledger agrees below e above q in
-        regrant-room (k .pre) (k .s) (k .post) (e .block) (chunked-block k) w r _ _ _ _ _ (resize-behaves a (e .block) w .refused WouldMove)
+        regrant-room (k .pre) (k .s) (k .asked) (k .post) (e .block) (chunked-block k) w r _ _ _ _ _ (resize-behaves a (e .block) w .refused WouldMove)
         (resize-behaves a (e .block) w .done)
         (λ h. absurd h) (λ h. own .0 (h .1)) (λ short. (agrees .is-sound, (lawful-request w r, own .1 short)))
 
@@ -142,7 +143,7 @@ module _ (n : ℕ) (a : List ℕ) (ledger : Ledger) (agrees : Agrees n a ledger)
         let gap = no-gap w in
         let own = short-block below above e q w in
         let k = agrees-chunked n a ledger agrees below e above q in
-        regrant-room (k .pre) (k .s) (k .post) (e .block) (chunked-block k) w r _ _ _ _ _ (realloc-behaves a (e .block) w .refused NoRoom)
+        regrant-room (k .pre) (k .s) (k .asked) (k .post) (e .block) (chunked-block k) w r _ _ _ _ _ (realloc-behaves a (e .block) w .refused NoRoom)
         (realloc-behaves a (e .block) w .done)
         (λ h. (gap .0 (h .2), own .0 (h .1))) (λ h. absurd h)
         (λ short. (agrees .is-sound, (lawful-request w r, own .1 (short .1), gap .1 (short .0))))
@@ -151,7 +152,7 @@ module _ (n : ℕ) (a : List ℕ) (ledger : Ledger) (agrees : Agrees n a ledger)
 
     -- a free chunk stands right after the block
     abbrev BesideFree : Type 0
-    BesideFree = (pre : List Chunk) × (s : ℕ) × (t : ℕ) × (post : List Chunk) × BlockAt a (e .block) pre s (free t ∷ post)
+    BesideFree = (pre : List Chunk) × (s : ℕ) × (asked : ℕ) × (t : ℕ) × (post : List Chunk) × BlockAt a (e .block) pre s asked (free t ∷ post)
         × (headerWords + e .granted ≡ s)
 
     -- a gap right above it is one
@@ -161,18 +162,18 @@ module _ (n : ℕ) (a : List ℕ) (ledger : Ledger) (agrees : Agrees n a ledger)
         k : Chunked firstChunk (chunksOf a) e above
         k = agrees-chunked n a ledger agrees below e above q
 
-        go : (post : List Chunk) → BlockAt a (e .block) (k .pre) (k .s) post → k .s < roomWords (k .s) post → BesideFree
+        go : (post : List Chunk) → BlockAt a (e .block) (k .pre) (k .s) (k .asked) post → k .s < roomWords (k .s) post → BesideFree
         go [] is more = absurd (omega arith)
-        go (live t ∷ post) is more = absurd (omega arith)
-        go (free t ∷ post) is more = (k .pre, k .s, t, post, is, block-whole above e k)
+        go (live t other ∷ post) is more = absurd (omega arith)
+        go (free t ∷ post) is more = (k .pre, k .s, k .asked, t, post, is, block-whole above e k)
 
     module _ (gap : 0 < gapFrom n (ends e) above) (enough : need w ≤ headerWords + e .granted) where
       pub resize-shrinks : resizeOn a (e .block) w .answer ≡ success (e .block ∷ (need w - headerWords) ∷ [])
       resize-shrinks =
-          let (pre, s, t, post, is, whole) = gap-chunk gap in
-          ap (λ (o : Outcome). o .answer) (resize-hands-over a (e .block) pre s t post (agrees .is-sound) is w (lawful-request w r) (omega arith))
+          let (pre, s, asked, t, post, is, whole) = gap-chunk gap in
+          ap (λ (o : Outcome). o .answer) (resize-hands-over a (e .block) pre s asked t post (agrees .is-sound) is w (lawful-request w r) (omega arith))
 
       pub realloc-shrinks : reallocOn a (e .block) w .answer ≡ success (e .block ∷ (need w - headerWords) ∷ [])
       realloc-shrinks =
-          let (pre, s, t, post, is, whole) = gap-chunk gap in
-          ap (λ (o : Outcome). o .answer) (realloc-hands-over a (e .block) pre s t post (agrees .is-sound) is w (lawful-request w r) (omega arith))
+          let (pre, s, asked, t, post, is, whole) = gap-chunk gap in
+          ap (λ (o : Outcome). o .answer) (realloc-hands-over a (e .block) pre s asked t post (agrees .is-sound) is w (lawful-request w r) (omega arith))

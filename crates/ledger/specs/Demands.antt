@@ -23,7 +23,7 @@ use Rattle.ledger.specs.Ledger.{Entry, Ledger, told, Done, Listed, Unlis
 use Rattle.ledger.specs.Gaps.{gapFrom, gaps, EachShorter, holes, RoomShorter}
 use Rattle.ledger.specs.Runs.{State, Allowed, reported, after, Run}
 use Rattle.ledger.specs.BatchRuns.{afterBatch, afterSingly}
-use Rattle.ledger.specs.Holders.{wordAfter, numberAfter, Ended, StoredLast}
+use Rattle.ledger.specs.Holders.{wordAfter, numberAfter, Ended, StoredLast, AskedLast}
 use Rattle.ledger.specs.Promises.{Promises}
 use Rattle.ledger.specs.Plans.{Plans}
 
@@ -163,6 +163,16 @@ module _ (library : Library) where
       Done answer → told answer .block ≡ e .block
       → (headerWords + told answer .granted ≡ need w) ⊎ (gapFrom n (e .block + told answer .granted) above ≡ 0)
 
+  -- item 9: what size answers as asked is what was asked for last
+  abbrev pub SizeTellsAsked : Type 0
+  SizeTellsAsked =
+      (n : ℕ) (s : State) (b w : ℕ) → AskedLast library n s b w
+      → (granted : ℕ) × (library (size b) (s .words) .answer ≡ success (w ∷ granted ∷ []))
+
+  -- and the ledger has it, of every block
+  abbrev pub LedgerKeepsAsked : Type 0
+  LedgerKeepsAsked = (n : ℕ) (s : State) → Run library n s → (e : Entry) → Listed (s .ledger) e → AskedLast library n s (e .block) (e .asked)
+
   -- a call on a block is answered 3 exactly for a number that is not in the ledger
   abbrev pub NeedsBlock : (ℕ → Call) → List ℕ → Ledger → Type 0
   NeedsBlock calls a ledger = (b : ℕ) → (library (calls b) a .answer .code ≡ number NotABlock) ↔ Unlisted ledger b
@@ -192,7 +202,7 @@ module _ (library : Library) where
     pub realloc-known : (w : ℕ) → NeedsBlock (λ b. realloc b w) a ledger
     pub realloc-grants : (b : ℕ) → GrantsNeed (realloc b) a
     pub size-known : NeedsBlock size a ledger
-    pub size-listed : (e : Entry) → Listed ledger e → library (size (e .block)) a .answer ≡ success (e .granted ∷ [])
+    pub size-listed : (e : Entry) → Listed ledger e → library (size (e .block)) a .answer ≡ success (e .asked ∷ e .granted ∷ [])
     pub view-listed : (e : Entry) → Listed ledger e → library (view (e .block)) a .answer ≡ success (take (e .granted) (drop (e .block) a))
     pub view-unlisted : (b : ℕ) → Unlisted ledger b → library (view b) a .answer ≡ success []
     pub report-done : Done (library report a .answer)
@@ -206,7 +216,7 @@ module _ (library : Library) where
   abbrev pub Known : Type 0
   Known = (n : ℕ) (s : State) → Run library n s → Tells (s .words) (s .ledger)
 
-  -- demand 3, whole, with what items 1 to 8 ask of it
+  -- demand 3, whole, with what items 1 to 9 ask of it
   pub record DemandThree : Type 0 where
     pub starts : Starts
     pub receives : Receives
@@ -233,6 +243,8 @@ module _ (library : Library) where
     pub realloc-need-or-room : NeedOrRoom realloc
     pub same-as-singly : SameAsSingly
     pub runs-hold-batches : RunsHoldBatches
+    pub size-tells-asked : SizeTellsAsked
+    pub ledger-keeps-asked : LedgerKeepsAsked
     pub promises : Promises library
     pub plans : Plans library
     pub known : Known

@@ -14,10 +14,11 @@ use Rattle.rules.specs.Pictures.{Said, bad, good, said}
 use Rattle.rules.specs.Libraries.{start, alloc, free, resize, relocate, realloc, size, view, report, write, read}
 use Rattle.ledger.specs.Events.{Event, call, store}
 
--- a block's number and its granted words
+-- a block's number, its granted words, and the words that were asked for
 pub record Entry : Type 0 where
   pub block : ℕ
   pub granted : ℕ
+  pub asked : ℕ
 
 -- by rising number, as `enter` puts them
 abbrev pub Ledger : Type 0
@@ -36,14 +37,14 @@ strike b [] = []
 strike b (f ∷ fs) = cond (eqb (f .block) b) (strike b fs) (f ∷ strike b fs)
 
 -- the live chunk of `s` words that starts at word `c`
-abbrev pub entryAt : ℕ → ℕ → Entry
-entryAt c s = record { block = c + headerWords; granted = s - headerWords }
+abbrev pub entryAt : ℕ → ℕ → ℕ → Entry
+entryAt c s asked = record { block = c + headerWords; granted = s - headerWords; asked = asked }
 
 -- the live blocks of `ks`, which begin at word `c`
 abbrev pub blocksFrom : ℕ → List Chunk → Ledger
 blocksFrom c [] = []
 blocksFrom c (freeChunk s ∷ ks) = blocksFrom (c + s) ks
-blocksFrom c (live s ∷ ks) = entryAt c s ∷ blocksFrom (c + s) ks
+blocksFrom c (live s asked ∷ ks) = entryAt c s asked ∷ blocksFrom (c + s) ks
 
 -- the live blocks of an arena
 abbrev pub blocksOf : List ℕ → Ledger
@@ -57,18 +58,18 @@ picturedBlocks (good ws) = blocksOf ws
 -- what an event that is done means for the blocks
 pub data Effect : Type 0 where
   renews : (blocks : Ledger) → Effect  -- every block ends, and these are new
-  grants : Effect  -- the block that is answered is new
+  grants : (w : ℕ) → Effect  -- the block that is answered is new, and `w` words were asked for
   frees : (b : ℕ) → Effect  -- block `b` ends
-  regrants : (b : ℕ) → Effect  -- block `b` goes on as the block that is answered
+  regrants : (b w : ℕ) → Effect  -- block `b` goes on as the block that is answered, and `w` words were asked for
   spares : Effect  -- each block goes on as it is
 
 abbrev pub effect : Event → Effect
 effect (call start) = renews []
-effect (call (alloc fit w)) = grants
+effect (call (alloc fit w)) = grants w
 effect (call (free b)) = frees b
-effect (call (resize b w)) = regrants b
-effect (call (relocate b w)) = regrants b
-effect (call (realloc b w)) = regrants b
+effect (call (resize b w)) = regrants b w
+effect (call (relocate b w)) = regrants b w
+effect (call (realloc b w)) = regrants b w
 effect (call (size b)) = spares
 effect (call (view b)) = spares
 effect (call report) = spares
@@ -77,15 +78,23 @@ effect (call (read text)) = renews (picturedBlocks (said text))
 effect (store b i v) = spares
 
 -- the block and the granted words that an answer tells (0 where it has no such field)
-abbrev pub told : Answer → Entry
+pub record Told : Type 0 where
+  pub block : ℕ
+  pub granted : ℕ
+
+abbrev pub told : Answer → Told
 told answer = record { block = blockField (answer .values); granted = grantedField (answer .values) }
+
+-- the entry of the block that is answered, where `w` words were asked for
+abbrev pub entryFor : ℕ → Answer → Entry
+entryFor w answer = record { block = told answer .block; granted = told answer .granted; asked = w }
 
 -- what an event that is done makes of the ledger
 abbrev pub noted : Effect → Answer → Ledger → Ledger
 noted (renews blocks) answer ledger = blocks
-noted grants answer ledger = enter (told answer) ledger
+noted (grants w) answer ledger = enter (entryFor w answer) ledger
 noted (frees b) answer ledger = strike b ledger
-noted (regrants b) answer ledger = enter (told answer) (strike b ledger)
+noted (regrants b w) answer ledger = enter (entryFor w answer) (strike b ledger)
 noted spares answer ledger = ledger
 
 -- one thing after an event that was done, another after a refusal

@@ -82,11 +82,11 @@ after board [] = board
 after board (starred text reply ∷ rows) = after (asked board text .board) rows
 after board (plain text ∷ rows) = after (asked board text .board) rows
 
--- words 18 and 19 are those of 26 and 27; free chunks are 2 (size 14) and 24 (size 4)
+-- words 18 and 19 are those of 26 and 27; free chunks are 2 (size 14) and 24 (size 4); 6 and 2 words were asked for
 abbrev pub Moved : ℕ → ℕ → Board → Type 0
 Moved x y board =
     (take 2 (drop 18 (board .words)) ≡ x ∷ y ∷ [])
-    × (chunksOf (lentOf board) ≡ free 14 ∷ live 8 ∷ free 4 ∷ live 4 ∷ [])
+    × (chunksOf (lentOf board) ≡ free 14 ∷ live 8 6 ∷ free 4 ∷ live 4 2 ∷ [])
 
 -- the statement: the starred rows, each after all rows above it, and the move, whatever words 26 and 27 are
 abbrev pub Table : Type 0

@@ -30,8 +30,8 @@ found-gap a need spot (a-gap pre s post (same, enough)) link chunk e p =
 -- block `b` is the live chunk that starts at `chunk`
 abbrev pub FoundBlock : List ℕ → ℕ → ℕ → ℕ → Type 0
 FoundBlock a b link chunk =
-    (pre : List Chunk) × (s : ℕ) × (post : List Chunk) × (held b (chunksOf a) ≡ at pre (live s) post) × Placed a pre (live s) post link chunk
-    × (chunk + headerWords ≡ b)
+    (pre : List Chunk) × (s : ℕ) × (asked : ℕ) × (post : List Chunk) × (held b (chunksOf a) ≡ at pre (live s asked) post)
+    × Placed a pre (live s asked) post link chunk × (chunk + headerWords ≡ b)
 
 pub found-block : (a : List ℕ) (b link chunk : ℕ) → sound a ≡ true → At link chunk ≡ placeOf (held b (chunksOf a)) → FoundBlock a b link chunk
 unfolding placeOf
@@ -39,10 +39,10 @@ found-block a b link chunk e q = go (block-search a b) refl q
   where
     go : {spot : Spot} → BlockSearch a b spot → held b (chunksOf a) ≡ spot → At link chunk ≡ placeOf spot → FoundBlock a b link chunk
     go (no-block h) is p = absurd (let z : _≡_ {A = ℕ} 0 1 = cc in omega arith)
-    go (a-block pre s post at-b) is p =
+    go (a-block pre s asked post at-b) is p =
         let c : chunk ≡ firstChunk + total pre = cc in
         let n = at-b .number-is in
-        (pre, s, post, is, record { is-sound = e; stands = record { same = at-b .same; number-is = omega arith }; link-is = cc }, omega arith)
+        (pre, s, asked, post, is, record { is-sound = e; stands = record { same = at-b .same; number-is = omega arith }; link-is = cc }, omega arith)
 
 pub found-nowhere : (spot : Spot) → Nowhere ≡ placeOf spot → spot ≡ nowhere
 unfolding placeOf

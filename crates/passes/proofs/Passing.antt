@@ -1,14 +1,14 @@
 -- A pass over the chunks of a sound arena: what is left of them, and what the words say of the next one.
-use mathlib.Core.Path.{_≡_, sym, _∙_}
-use mathlib.Core.Logic.{_≢_}
-use mathlib.Core.Bool.{true}
+use mathlib.Core.Path.{_≡_}
+use mathlib.Core.Bool.{true, false}
 use mathlib.Core.List.{List, [], _∷_}
 use Prim.Native.Nat.{ℕ, _+_, _%_, _≤_, _<_}
 use native.Mathlib.Omega.{arith}
 use lib.ListN.{length, getD}
+use borrow.Author.Tests.{leb-true, leb-false}
 use Rattle.layout.specs.Numbers.{firstChunk, leastSize, greatestLength, liveMark}
 use Rattle.layout.specs.Chunks.{Chunk, free, live, size, total}
-use Rattle.layout.specs.Walk.{sound, chunksOf}
+use Rattle.layout.specs.Walk.{isLive, sound, chunksOf}
 use Rattle.layout.proofs.Holds.{Sizes, Holds, link-unmarked}
 use Rattle.layout.proofs.Round.{sound-chunks}
 
@@ -38,14 +38,15 @@ module _ (a : List ℕ) (chunk : ℕ) where
       let s : getD a chunk 0 ≡ size k = l .heads .0 in
       omega arith
 
-  pub live-here : (ks : List Chunk) → Left a chunk ks → chunk < length a → getD a (chunk + 1) 0 ≡ liveMark
-      → (ls : List Chunk) × (ks ≡ live (getD a chunk 0) ∷ ls)
+  pub live-here : (ks : List Chunk) → Left a chunk ks → chunk < length a → isLive (getD a (chunk + 1) 0) ≡ true
+      → (asked : ℕ) × (ls : List Chunk) × (ks ≡ live (getD a chunk 0) asked ∷ ls)
   live-here [] l h e = absurd (omega arith)
-  live-here (live s ∷ ks) l h e = (ks, rw (l .heads .0))
-  live-here (free s ∷ ks) l h e = absurd (link-unmarked (chunk + s) ks (omega arith) (sym (l .heads .1) ∙ e))
+  live-here (live s asked ∷ ks) l h e = (asked, ks, rw (l .heads .0))
+  live-here (free s ∷ ks) l h e =
+      absurd (omega (arith, link-unmarked (chunk + s) ks (omega arith), l .heads .1, leb-true liveMark (getD a (chunk + 1) 0) e))
 
-  pub free-here : (ks : List Chunk) → Left a chunk ks → chunk < length a → getD a (chunk + 1) 0 ≢ liveMark
+  pub free-here : (ks : List Chunk) → Left a chunk ks → chunk < length a → isLive (getD a (chunk + 1) 0) ≡ false
       → (ls : List Chunk) × (ks ≡ free (getD a chunk 0) ∷ ls)
   free-here [] l h n = absurd (omega arith)
-  free-here (live s ∷ ks) l h n = absurd (n (l .heads .1))
+  free-here (live s asked ∷ ks) l h n = absurd (omega (arith, l .heads .1, leb-false liveMark (getD a (chunk + 1) 0) n))
   free-here (free s ∷ ks) l h n = (ks, rw (l .heads .0))

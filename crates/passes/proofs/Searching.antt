@@ -36,10 +36,10 @@ pub place-here : (base c : ℕ) (k : Chunk) (post : List Chunk) → placeFrom ba
 unfolding placeFrom
 place-here base c k post = ap (At base) (omega arith)
 
-pub place-past-live : (base c s : ℕ) (spot : Spot) → placeFrom base c (behind (live s) spot) ≡ placeFrom base (c + s) spot
+pub place-past-live : (base c s asked : ℕ) (spot : Spot) → placeFrom base c (behind (live s asked) spot) ≡ placeFrom base (c + s) spot
 unfolding placeFrom
-place-past-live base c s nowhere = refl
-place-past-live base c s (at pre k post) = ap (At (linkAt base (c + s) pre)) (omega arith)
+place-past-live base c s asked nowhere = refl
+place-past-live base c s asked (at pre k post) = ap (At (linkAt base (c + s) pre)) (omega arith)
 
 pub place-past-free : (base c s : ℕ) (spot : Spot) → placeFrom base c (behind (free s) spot) ≡ placeFrom (c + 1) (c + s) spot
 unfolding placeFrom
@@ -65,19 +65,19 @@ search-in-vain a b e h =
 
 module _ (a : List ℕ) (b link chunk : ℕ) where
   -- the chunk at `chunk` is the block
-  pub search-stops : (s : ℕ) (ks : List Chunk) → Going a b link chunk (live s ∷ ks) → chunk + headerWords ≡ b
+  pub search-stops : (s asked : ℕ) (ks : List Chunk) → Going a b link chunk (live s asked ∷ ks) → chunk + headerWords ≡ b
       → At link chunk ≡ placeOf (held b (chunksOf a))
   unfolding lowest
-  search-stops s ks g t = sym (place-here link chunk (live s) ks) ∙ (rw (eq-eqb (chunk + headerWords) b t) at (g .goes))
+  search-stops s asked ks g t = sym (place-here link chunk (live s asked) ks) ∙ (rw (eq-eqb (chunk + headerWords) b t) at (g .goes))
 
   -- it is another block
-  pub search-past-live : (s : ℕ) (ks : List Chunk) → Going a b link chunk (live s ∷ ks) → (chunk + headerWords ≡ b → ⊥)
+  pub search-past-live : (s asked : ℕ) (ks : List Chunk) → Going a b link chunk (live s asked ∷ ks) → (chunk + headerWords ≡ b → ⊥)
       → Going a b link (chunk + s) ks
   unfolding lowest
-  search-past-live s ks g t =
+  search-past-live s asked ks g t =
       record {
-        left = past a chunk (live s) ks (g .left);
-        goes = sym (place-past-live link chunk s _) ∙ (rw (ne-eqb (chunk + headerWords) b t) at (g .goes));
+        left = past a chunk (live s asked) ks (g .left);
+        goes = sym (place-past-live link chunk s asked _) ∙ (rw (ne-eqb (chunk + headerWords) b t) at (g .goes));
       }
 
   -- it is free
@@ -100,12 +100,12 @@ firstOf test link [] = Nowhere
 firstOf test link ((c, s) ∷ list) = cond (test c (free s)) (At link c) (firstOf test (c + 1) list)
 
 -- of the free list it is the lowest chunk that passes, if no live chunk does
-first-lowest : (test : ℕ → Chunk → Bool) → ((c s : ℕ) → test c (live s) ≡ false) → (link c : ℕ) (ks : List Chunk)
+first-lowest : (test : ℕ → Chunk → Bool) → ((c s asked : ℕ) → test c (live s asked) ≡ false) → (link c : ℕ) (ks : List Chunk)
     → placeFrom link c (lowest test c ks) ≡ firstOf test link (freeList c ks)
 unfolding lowest placeFrom
 first-lowest test miss link c [] = refl
-first-lowest test miss link c (live s ∷ ks) =
-    rw (miss c s) (place-past-live link c s (lowest test (c + s) ks) ∙ first-lowest test miss link (c + s) ks)
+first-lowest test miss link c (live s asked ∷ ks) =
+    rw (miss c s asked) (place-past-live link c s asked (lowest test (c + s) ks) ∙ first-lowest test miss link (c + s) ks)
 first-lowest test miss link c (free s ∷ ks) = go (test c (free s)) refl (first-lowest test miss (c + 1) (c + s) ks)
   where
     go : (passes : Bool) → test c (free s) ≡ passes → placeFrom (c + 1) (c + s) (lowest test (c + s) ks) ≡ firstOf test (c + 1) (freeList (c + s) ks)
@@ -120,7 +120,7 @@ pub record Seeking (a : List ℕ) (test : ℕ → Chunk → Bool) (link : ℕ) (
   pub inside : link < length a
   pub goes : firstOf test link list ≡ placeOf (lowest test firstChunk (chunksOf a))
 
-pub seek-begins : (a : List ℕ) (test : ℕ → Chunk → Bool) → ((c s : ℕ) → test c (live s) ≡ false) → sound a ≡ true
+pub seek-begins : (a : List ℕ) (test : ℕ → Chunk → Bool) → ((c s asked : ℕ) → test c (live s asked) ≡ false) → sound a ≡ true
     → Seeking a test listWord (freeList firstChunk (chunksOf a))
 seek-begins a test miss e =
     let r = sound-chunks a e in

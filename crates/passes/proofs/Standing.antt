@@ -1,11 +1,14 @@
 -- A chunk in its place: what the code reads there.
 use mathlib.Core.Path.{_≡_}
+use mathlib.Core.Bool.{true}
 use mathlib.Core.List.{List, _∷_, _++_}
 use Prim.Native.Nat.{ℕ, _+_, _%_, _≤_, _<_}
 use native.Mathlib.Omega.{arith}
 use lib.ListN.{length, getD}
-use Rattle.layout.specs.Numbers.{firstChunk, listWord, leastSize, greatestLength}
-use Rattle.layout.specs.Chunks.{Chunk, size, total, firstFree}
+use borrow.Author.Tests.{le-leb}
+use Rattle.layout.specs.Numbers.{firstChunk, listWord, leastSize, greatestLength, liveMark}
+use Rattle.layout.specs.Chunks.{Chunk, live, size, total, firstFree, second}
+use Rattle.layout.specs.Walk.{isLive, askedIn}
 use Rattle.layout.specs.Links.{linkAt, freeList, Chain}
 use Rattle.layout.proofs.Holds.{Sizes, holds-split, sizes-split, total-append}
 use Rattle.layout.proofs.Linked.{linkAt-below}
@@ -24,6 +27,7 @@ pub record Reads (a : List ℕ) (pre : List Chunk) (k : Chunk) (post : List Chun
   pub arena : Arena a (pre ++ k ∷ post)
   pub at-is : chunk ≡ firstChunk + total pre
   pub size-is : getD a chunk 0 ≡ size k
+  pub second-is : getD a (chunk + 1) 0 ≡ second k (firstFree (chunk + size k) post 0)
   pub leads : Chain a link (freeList chunk (k ∷ post))
   pub names : getD a link 0 ≡ firstFree chunk (k ∷ post) 0
   pub even : size k % 2 ≡ 0
@@ -50,6 +54,7 @@ reads a pre k post link chunk s =
       arena = r;
       at-is = c;
       size-is = h .1 .0;
+      second-is = h .1 .1;
       leads = l;
       names = chain-first a link chunk (k ∷ post) l;
       even = zk .0;
@@ -61,3 +66,8 @@ reads a pre k post link chunk s =
       sizes-before = z .0;
       sizes-after = zk .2;
     }
+
+-- a live chunk's second word says so, and what was asked for
+pub reads-asked : {a : List ℕ} {pre : List Chunk} {s asked : ℕ} {post : List Chunk} {link chunk : ℕ} → Reads a pre (live s asked) post link chunk
+    → (isLive (getD a (chunk + 1) 0) ≡ true) × (askedIn (getD a (chunk + 1) 0) ≡ asked)
+reads-asked {a} {chunk = chunk} r = (le-leb liveMark (getD a (chunk + 1) 0) (omega (arith, r .second-is)), omega (arith, r .second-is))

@@ -33,7 +33,7 @@ record Counted (c : ℕ) (ks : List Chunk) : Type 0 where
 counted : (c : ℕ) (ks : List Chunk) → Counted c ks
 counted c [] = record { words-listed = refl; largest-listed = refl; chunks-listed = refl }
 counted c (free s ∷ ks) = let l = counted (c + s) ks in omega arith
-counted c (live s ∷ ks) = let l = counted (c + s) ks in omega arith
+counted c (live s asked ∷ ks) = let l = counted (c + s) ks in omega arith
 
 -- the loop has yet to follow the links from word `link` on, through `list`; what it has counted, with these, makes the
 -- counts of all free chunks

@@ -39,10 +39,10 @@ orBest least best base c nowhere = best
 orBest least best base c (at pre k post) = cond (ltb (size k) least) (placeFrom base c (at pre k post)) best
 
 -- past a live chunk, and past a free one that is not picked
-or-best-live : (least : ℕ) (best : Place) (base c s : ℕ) (spot : Spot)
-    → orBest least best base c (behind (live s) spot) ≡ orBest least best base (c + s) spot
-or-best-live least best base c s nowhere = refl
-or-best-live least best base c s (at pre k post) = rw (place-past-live base c s (at pre k post))
+or-best-live : (least : ℕ) (best : Place) (base c s asked : ℕ) (spot : Spot)
+    → orBest least best base c (behind (live s asked) spot) ≡ orBest least best base (c + s) spot
+or-best-live least best base c s asked nowhere = refl
+or-best-live least best base c s asked (at pre k post) = rw (place-past-live base c s asked (at pre k post))
 
 or-best-free : (least : ℕ) (best : Place) (base c s : ℕ) (spot : Spot)
     → orBest least best base c (behind (free s) spot) ≡ orBest least best (c + 1) (c + s) spot
@@ -86,8 +86,8 @@ best-listed : (need least : ℕ) (best : Place) (base c : ℕ) (ks : List Chunk)
     → bestOf need least best base (freeList c ks) ≡ orBest least best base c (bestFit need ks)
 unfolding bestFit
 best-listed need least best base c [] = refl
-best-listed need least best base c (live s ∷ ks) =
-    best-listed need least best base (c + s) ks ∙ sym (or-best-live least best base c s (bestFit need ks))
+best-listed need least best base c (live s asked ∷ ks) =
+    best-listed need least best base (c + s) ks ∙ sym (or-best-live least best base c s asked (bestFit need ks))
 best-listed need least best base c (free s ∷ ks) =
     go (leb need s) (ltb s least) refl (best-listed need s (At base c) (c + 1) (c + s) ks) (best-listed need least best (c + 1) (c + s) ks)
   where

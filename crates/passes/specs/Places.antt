@@ -28,8 +28,9 @@ pub record Placed (a : List ℕ) (pre : List Chunk) (k : Chunk) (post : List Chu
 
 -- a live chunk starts at `chunk`
 abbrev pub LiveAt : List ℕ → ℕ → ℕ → Type 0
-LiveAt a link chunk = (pre : List Chunk) × (s : ℕ) × (post : List Chunk) × Placed a pre (live s) post link chunk
+LiveAt a link chunk = (pre : List Chunk) × (s : ℕ) × (asked : ℕ) × (post : List Chunk) × Placed a pre (live s asked) post link chunk
 
--- a free chunk that fits the need starts at `chunk`
-abbrev pub FitsAt : List ℕ → ℕ → ℕ → ℕ → Type 0
-FitsAt a link chunk need = (pre : List Chunk) × (s : ℕ) × (post : List Chunk) × Placed a pre (free s) post link chunk × (need ≤ s) × Needed need
+-- a free chunk that fits the need of a request for `asked` words starts at `chunk`
+abbrev pub FitsAt : List ℕ → ℕ → ℕ → ℕ → ℕ → Type 0
+FitsAt a link chunk need asked =
+    (pre : List Chunk) × (s : ℕ) × (post : List Chunk) × Placed a pre (free s) post link chunk × (need ≤ s) × Needed need asked

@@ -29,7 +29,7 @@ pub fn find(a: &[u32], b: usize) -> Place
     let mut link = layout::LIST_WORD;
     let mut chunk = layout::FIRST_CHUNK;
     while chunk < start {
-        if a[chunk + 1] != layout::LIVE_MARK {
+        if !layout::is_live(a[chunk + 1]) {
             link = chunk + 1;
         }
         chunk += wide(a[chunk]);
@@ -37,7 +37,7 @@ pub fn find(a: &[u32], b: usize) -> Place
     if chunk != start {
         return Place::Nowhere;
     }
-    if a[chunk + 1] != layout::LIVE_MARK {
+    if !layout::is_live(a[chunk + 1]) {
         return Place::Nowhere;
     }
     Place::At(link, chunk)

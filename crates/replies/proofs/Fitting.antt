@@ -87,17 +87,17 @@ module _ (a : List ℕ) where
   free-fits b = case-fits go (free-case a b)
     where
       go : (values after : List ℕ) → Frees a b values after → Fits 0 values
-      go values after (frees e pre s post is) = record { count = refl; small = tt }
+      go values after (frees e pre s asked post is) = record { count = refl; small = tt }
 
   -- realloc answers a block and its granted words, and both fit
   pub realloc-fits : (b n : ℕ) → Fits 2 (reallocOn a b n .answer .values)
   realloc-fits b n = case-fits go (realloc-case a b n)
     where
       go : (values after : List ℕ) → Regrants a b n values after → Fits 2 values
-      go values after (in-place (resizes e r pre s post is keep k)) =
-          granted-fits e pre (live s ∷ roomTail post) (roomAfter post) (roomWords s post) keep b
-          (room-split pre s post (is .same)) (room-words s post) (kept-numbers (need n) s keep post k .within) (omega (arith, is .number-is))
-      go values after (elsewhere (moves e r pre s post is before g behind gap block at-is ks same count fewer)) =
+      go values after (in-place (resizes e r pre s asked post is keep k)) =
+          granted-fits e pre (live s asked ∷ roomTail post) (roomAfter post) (roomWords s post) keep b
+          (room-split pre s asked post (is .same)) (room-words s post) (kept-numbers (need n) s keep post k .within) (omega (arith, is .number-is))
+      go values after (elsewhere (moves e r pre s asked post is before g behind gap block at-is ks same count fewer)) =
           granted-fits e before (free g ∷ []) behind g _ block (gap .0) (omega arith) (cut-numbers (need n) g (gap .1) .within) (omega arith)
 
   -- report answers four numbers, and all fit

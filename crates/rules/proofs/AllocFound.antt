@@ -40,7 +40,7 @@ unfolding allocBy
 alloc-by-found policy fitting Is is a n = go (arenaGate a) (requestGate (length a) n) (fitting (need n) (chunksOf a)) refl
   where
     go : (arena request : Gate) {spot : Spot} → Picks (chunksOf a) (need n) spot → policy (need n) (chunksOf a) ≡ spot
-        → let outcome = settle 2 a (pass arena (pass request (granted NoRoom (allotted (grantFrom (need n) spot) a)))) in
+        → let outcome = settle 2 a (pass arena (pass request (granted NoRoom (allotted (grantFrom (need n) n spot) a)))) in
         outcome .answer .code ≡ 0 → GrantedFrom (Is (chunksOf a) (need n)) a n (outcome .answer .values) (startOf spot)
     go (Shut why) request p e done = absurd (omega (arith, number-positive why))
     go Open (Shut why) p e done = absurd (omega (arith, number-positive why))

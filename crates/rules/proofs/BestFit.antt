@@ -56,8 +56,8 @@ best-told need [] = nothing go
     go : NoGapIn [] need
     go [] s post gap = absurd (let z : _≡_ {A = ℕ} 0 1 = cc in omega arith)
     go (m ∷ pre) s post gap = absurd (let z : _≡_ {A = ℕ} 0 1 = cc in omega arith)
-best-told need (live s ∷ ks) =
-    best-behind need (live s) ks (λ t e. absurd (let z : _≡_ {A = ℕ} 0 1 = cc in omega arith)) (best-told need ks)
+best-told need (live s asked ∷ ks) =
+    best-behind need (live s asked) ks (λ t e. absurd (let z : _≡_ {A = ℕ} 0 1 = cc in omega arith)) (best-told need ks)
 best-told need (free s ∷ ks) = go (leb need s) refl (best-told need ks)
   where
     -- it is this chunk, as small as any other that fits

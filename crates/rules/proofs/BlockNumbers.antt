@@ -22,15 +22,15 @@ resize-stays a b n = go (resize-case a b n)
     go : {outcome : Outcome} → Case 2 a (ResizeRefused a b n) (Resizes a b n) outcome → outcome .answer .code ≡ 0
         → blockField (outcome .answer .values) ≡ b
     go (refuses why r) code = absurd (omega (arith, number-positive why))
-    go (does (resizes e r pre s post is keep k)) code = refl
+    go (does (resizes e r pre s asked post is keep k)) code = refl
 
 -- a move that is done answers another number than it was given
 pub relocated-elsewhere : (a : List ℕ) (b n : ℕ) (values after : List ℕ) → Relocates a b n values after → blockField values ≢ b
-relocated-elsewhere a b n values words (moves e r pre s post is before g after (same, enough) block at-is ks _ count shorter) q =
-    let z = block-sizes a b pre s post e is .1 in
+relocated-elsewhere a b n values words (moves e r pre s asked post is before g after (same, enough) block at-is ks _ count shorter) q =
+    let z = block-sizes a b pre s asked post e is .1 in
     let c = cut-numbers (need n) g enough in
     ⊎-elim (λ (above : _). omega (arith, above, z, at-is, is .number-is)) (λ (below : _). omega (arith, below, c .enough, at-is, is .number-is))
-    (old-apart (need n) pre s post before g after (order pre s post before g after (sym (is .same) ∙ same)))
+    (old-apart (need n) n pre s asked post before g after (order pre s asked post before g after (sym (is .same) ∙ same)))
 
 pub relocate-moves : (a : List ℕ) (b n : ℕ) → relocateOn a b n .answer .code ≡ 0 → blockField (relocateOn a b n .answer .values) ≢ b
 relocate-moves a b n code = relocated-elsewhere a b n _ _ (done-does (relocate-case a b n) code)

@@ -17,14 +17,14 @@ use Rattle.layout.specs.declared.Reason.the-variants.{Length, Damaged, NotABloc
 use Rattle.layout.proofs.Reasons.{number-positive}
 use Rattle.rules.specs.Answers.{Outcome, refusal, success, done, refused, settle, pass}
 use Rattle.rules.specs.Spots.{Spot, at, held}
-use Rattle.rules.specs.Rules.{taken, cut, joined, released, grantedAt, grantFrom, allotted, freeWords, widest, liveBlocks, freeChunks}
+use Rattle.rules.specs.Rules.{taken, cut, joined, released, askedAt, grantedAt, grantFrom, allotted, freeWords, widest, liveBlocks, freeChunks}
 use Rattle.rules.specs.Calls.{onBlock, granted, startOn, allocBy, allocOn, freeOn, sizeOn, reportOn}
 use Rattle.rules.specs.Stands.{GapAt}
 use Rattle.rules.specs.Fits.{Policy, firstFit}
 use Rattle.rules.specs.Picks.{Picks, no-gap, a-gap, Fitting}
 use Rattle.rules.proofs.Fits.{first-fitting}
 use Rattle.rules.proofs.Searches.{BlockAt, BlockSearch, no-block, a-block, block-search}
-use Rattle.rules.proofs.Gates.{Checked, unlawful, damaged, whole, checked, Asked, for-none, for-more, for-some, asked}
+use Rattle.rules.proofs.Gates.{Checked, unlawful, damaged, whole, checked, Asked, for-none, for-more, for-some, request-asked}
 use Rattle.rules.specs.Causes.{LawfulRequest, StartRefused, ReportRefused, BlockRefused, AllocRefused}
 
 -- an outcome of a call on the words `a`: `Refuses` is what the reasons say, and `Does` what is known of the fields and
@@ -68,15 +68,15 @@ start-case a = go (lawful (length a)) refl
 pub data Allots (a : List ℕ) (n : ℕ) : List ℕ → List ℕ → Type 0 where
   allots : sound a ≡ true → LawfulRequest (length a) n → (pre : List Chunk) (s : ℕ) (post : List Chunk) → GapAt a (need n) pre s post
       → Allots a n ((firstChunk + total pre + (s - taken (need n) s) + headerWords) ∷ (taken (need n) s - headerWords) ∷ [])
-      (written (pre ++ (cut (need n) s ++ post)) a)
+      (written (pre ++ (cut (need n) n s ++ post)) a)
 
 -- under any policy that is fitting
 pub alloc-by-case : (policy : Policy) → Fitting policy → (a : List ℕ) (n : ℕ) → Case 2 a (AllocRefused a n) (Allots a n) (allocBy policy a n)
 unfolding allocBy
-alloc-by-case policy fitting a n = go (checked a) (asked (length a) n) (fitting (need n) (chunksOf a))
+alloc-by-case policy fitting a n = go (checked a) (request-asked (length a) n) (fitting (need n) (chunksOf a))
   where
     go : {arena request : Gate} {gap : Spot} → Checked a arena → Asked (length a) n request → Picks (chunksOf a) (need n) gap
-        → Case 2 a (AllocRefused a n) (Allots a n) (settle 2 a (pass arena (pass request (granted NoRoom (allotted (grantFrom (need n) gap) a)))))
+        → Case 2 a (AllocRefused a n) (Allots a n) (settle 2 a (pass arena (pass request (granted NoRoom (allotted (grantFrom (need n) n gap) a)))))
     go (unlawful e) q g = refuses Length e
     go (damaged e f) q g = refuses Damaged (e, f)
     go (whole e) (for-none z) g = refuses Zero (e, z)
@@ -89,8 +89,8 @@ alloc-case = alloc-by-case firstFit first-fitting
 
 -- a call on block `b`: where there is the block, its fields and the words follow from the spot
 block-case : (a : List ℕ) (b fields : ℕ) (Does : List ℕ → List ℕ → Type 0) (values after : Spot → List ℕ)
-    → (sound a ≡ true → (pre : List Chunk) (s : ℕ) (post : List Chunk) → BlockAt a b pre s post
-    → Does (values (at pre (live s) post)) (after (at pre (live s) post)))
+    → (sound a ≡ true → (pre : List Chunk) (s asked : ℕ) (post : List Chunk) → BlockAt a b pre s asked post
+    → Does (values (at pre (live s asked) post)) (after (at pre (live s asked) post)))
     → Case fields a (BlockRefused a b) Does
     (settle fields a (pass (arenaGate a) (onBlock (held b (chunksOf a)) (done (values (held b (chunksOf a))) (after (held b (chunksOf a)))))))
 block-case a b fields Does values after f = go (checked a) (block-search a b)
@@ -100,10 +100,10 @@ block-case a b fields Does values after f = go (checked a) (block-search a b)
     go (unlawful e) h = refuses Length e
     go (damaged e d) h = refuses Damaged (e, d)
     go (whole e) (no-block h) = refuses NotABlock (e, h)
-    go (whole e) (a-block pre s post is) = does (f e pre s post is)
+    go (whole e) (a-block pre s asked post is) = does (f e pre s asked post is)
 
 pub data Frees (a : List ℕ) (b : ℕ) : List ℕ → List ℕ → Type 0 where
-  frees : sound a ≡ true → (pre : List Chunk) (s : ℕ) (post : List Chunk) → BlockAt a b pre s post
+  frees : sound a ≡ true → (pre : List Chunk) (s asked : ℕ) (post : List Chunk) → BlockAt a b pre s asked post
       → Frees a b [] (written (joined (pre ++ free s ∷ post)) a)
 
 pub free-case : (a : List ℕ) (b : ℕ) → Case 0 a (BlockRefused a b) (Frees a b) (freeOn a b)
@@ -111,11 +111,12 @@ unfolding freeOn
 free-case a b = block-case a b 0 (Frees a b) (λ spot. []) (λ spot. written (released spot) a) frees
 
 pub data Measures (a : List ℕ) (b : ℕ) : List ℕ → List ℕ → Type 0 where
-  measures : sound a ≡ true → (pre : List Chunk) (s : ℕ) (post : List Chunk) → BlockAt a b pre s post → Measures a b ((s - headerWords) ∷ []) a
+  measures : sound a ≡ true → (pre : List Chunk) (s asked : ℕ) (post : List Chunk) → BlockAt a b pre s asked post
+      → Measures a b (asked ∷ (s - headerWords) ∷ []) a
 
-pub size-case : (a : List ℕ) (b : ℕ) → Case 1 a (BlockRefused a b) (Measures a b) (sizeOn a b)
+pub size-case : (a : List ℕ) (b : ℕ) → Case 2 a (BlockRefused a b) (Measures a b) (sizeOn a b)
 unfolding sizeOn
-size-case a b = block-case a b 1 (Measures a b) (λ spot. grantedAt spot ∷ []) (λ spot. a) measures
+size-case a b = block-case a b 2 (Measures a b) (λ spot. askedAt spot ∷ grantedAt spot ∷ []) (λ spot. a) measures
 
 pub data Reports (a : List ℕ) : List ℕ → List ℕ → Type 0 where
   reports : sound a ≡ true

@@ -94,7 +94,7 @@ module _ (a : List ℕ) where
   pub realloc-behaves : (b n : ℕ) → Behaves 2 a (ReallocRefused a b n) (reallocOn a b n)
   realloc-behaves b n = behaves (realloc-case a b n) (realloc-gives a b n) (regrants-kept a b n)
 
-  pub size-behaves : (b : ℕ) → Behaves 1 a (BlockRefused a b) (sizeOn a b)
+  pub size-behaves : (b : ℕ) → Behaves 2 a (BlockRefused a b) (sizeOn a b)
   size-behaves b = behaves (size-case a b) (size-gives a b) (λ values after d. same-kept a (measures-same a b values after d))
 
   pub report-behaves : Behaves 4 a (ReportRefused a) (reportOn a)

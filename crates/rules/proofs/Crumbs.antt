@@ -78,7 +78,7 @@ crumbsIn ks = crumbs (freeSizes ks)
 crumbs-append : (ks ls : List Chunk) → crumbsIn (ks ++ ls) ≡ crumbsIn ks + crumbsIn ls
 crumbs-append [] ls = omega arith
 crumbs-append (free s ∷ ks) ls = omega (arith, crumbs-append ks ls)
-crumbs-append (live s ∷ ks) ls = crumbs-append ks ls
+crumbs-append (live s asked ∷ ks) ls = crumbs-append ks ls
 
 -- chunks in the middle are replaced by others
 crumbs-replaced : (pre old new post : List Chunk) (more : ℕ) → crumbsIn new ≤ more + crumbsIn old
@@ -94,37 +94,37 @@ crumbs-replaced pre old new post more few =
     )
 
 -- a need is taken from a free chunk: what stays free of it is no crumb
-cut-crumbs : (need s : ℕ) → need ≤ s → crumbsIn (cut need s) ≤ 0 + crumbsIn (free s ∷ [])
-cut-crumbs need s enough = go (remainder need s enough)
+cut-crumbs : (need w s : ℕ) → need ≤ s → crumbsIn (cut need w s) ≤ 0 + crumbsIn (free s ∷ [])
+cut-crumbs need w s enough = go (remainder need s enough)
   where
     go : {over : Bool} → Remainder need s over
-        → crumbsIn (cond over (free (s - need) ∷ live need ∷ []) (live s ∷ [])) ≤ 0 + crumbsIn (free s ∷ [])
+        → crumbsIn (cond over (free (s - need) ∷ live need w ∷ []) (live s w ∷ [])) ≤ 0 + crumbsIn (free s ∷ [])
     go (split o) = omega (arith, no-crumb (s - need) (omega arith))
     go (whole l few) = omega arith
 
 -- a block keeps words of its room: the rest is no crumb, or a free chunk that took words
-trim-crumbs : (need s keep : ℕ) (post : List Chunk) → KeepsOfRoom need s post keep
-    → crumbsIn (trim keep (roomWords s post)) ≤ 0 + crumbsIn (live s ∷ roomTail post)
-trim-crumbs need s keep post (splits-rest o) =
+trim-crumbs : (need w s asked keep : ℕ) (post : List Chunk) → KeepsOfRoom need s post keep
+    → crumbsIn (trim keep w (roomWords s post)) ≤ 0 + crumbsIn (live s asked ∷ roomTail post)
+trim-crumbs need w s asked keep post (splits-rest o) =
     rw (lt-leb (roomWords s post) need (omega arith)) (omega (arith, no-crumb (roomWords s post - need) (omega arith)))
-trim-crumbs need s keep [] (hands-over own beside) = absurd (omega arith)
-trim-crumbs need s keep (live t ∷ ks) (hands-over own beside) = absurd (omega arith)
-trim-crumbs need s keep (free t ∷ ks) (hands-over own beside) =
+trim-crumbs need w s asked keep [] (hands-over own beside) = absurd (omega arith)
+trim-crumbs need w s asked keep (live t other ∷ ks) (hands-over own beside) = absurd (omega arith)
+trim-crumbs need w s asked keep (free t ∷ ks) (hands-over own beside) =
     rw (lt-leb (s + t) need (omega arith)) (omega (arith, crumb-longer t (s + t - need) (omega arith) (omega arith)))
-trim-crumbs need s keep post (its-room enough few) = rw (le-leb (roomWords s post) (roomWords s post) (omega arith)) (omega arith)
+trim-crumbs need w s asked keep post (its-room enough few) = rw (le-leb (roomWords s post) (roomWords s post) (omega arith)) (omega arith)
 
 -- neighbours are merged
 join-crumbs : (k : Chunk) (ks : List Chunk) → crumbsIn (join k ks) ≤ crumbsIn (k ∷ ks)
-join-crumbs (live s) ks = omega arith
+join-crumbs (live s asked) ks = omega arith
 join-crumbs (free s) [] = omega arith
-join-crumbs (free s) (live t ∷ ks) = omega arith
+join-crumbs (free s) (live t asked ∷ ks) = omega arith
 join-crumbs (free s) (free t ∷ ks) = omega (arith, crumb-joined s t)
 
 joined-crumbs : (ks : List Chunk) → crumbsIn (joined ks) ≤ crumbsIn ks
 unfolding joined
 joined-crumbs [] = omega arith
 joined-crumbs (free s ∷ ks) = omega (arith, join-crumbs (free s) (joined ks), joined-crumbs ks)
-joined-crumbs (live s ∷ ks) = joined-crumbs ks
+joined-crumbs (live s asked ∷ ks) = joined-crumbs ks
 
 -- ---- the crumbs of an arena
 
@@ -137,15 +137,15 @@ written-crumbs : (ks : List Chunk) (a : List ℕ) (more : ℕ) → Lawful (lengt
 written-crumbs ks a more l few = rw (written-sound ks a l .1) few
 
 -- a chunk is freed
-freed-crumbs : (a : List ℕ) (pre : List Chunk) (s : ℕ) (post : List Chunk) → sound a ≡ true → chunksOf a ≡ pre ++ live s ∷ post
+freed-crumbs : (a : List ℕ) (pre : List Chunk) (s asked : ℕ) (post : List Chunk) → sound a ≡ true → chunksOf a ≡ pre ++ live s asked ∷ post
     → crumbsOf (written (joined (pre ++ free s ∷ post)) a) ≤ crumb s + crumbsOf a
-freed-crumbs a pre s post e same =
-    written-crumbs _ a (crumb s) (freed-lawful a e pre s post same)
+freed-crumbs a pre s asked post e same =
+    written-crumbs _ a (crumb s) (freed-lawful a e pre s asked post same)
     (rw same
     (omega (
       arith,
       joined-crumbs (pre ++ free s ∷ post),
-      crumbs-replaced pre (live s ∷ []) (free s ∷ []) post (crumb s) (omega arith),
+      crumbs-replaced pre (live s asked ∷ []) (free s ∷ []) post (crumb s) (omega arith),
     )))
 
 -- a refused call keeps the words, so all depends on what is done
@@ -161,19 +161,19 @@ module _ (a : List ℕ) where
   allots-crumbs : (n : ℕ) (values after : List ℕ) → Allots a n values after → crumbsOf after ≤ 0 + crumbsOf a
   allots-crumbs n values after (allots e r pre s post (same, enough)) =
       written-crumbs _ a 0 (allots-lawful a e n r pre s post (same, enough))
-      (rw same (crumbs-replaced pre (free s ∷ []) (cut (need n) s) post 0 (cut-crumbs (need n) s enough)))
+      (rw same (crumbs-replaced pre (free s ∷ []) (cut (need n) n s) post 0 (cut-crumbs (need n) n s enough)))
 
   resizes-crumbs : (b n : ℕ) (values after : List ℕ) → Resizes a b n values after → crumbsOf after ≤ 0 + crumbsOf a
-  resizes-crumbs b n values after (resizes e r pre s post is keep k) =
-      written-crumbs _ a 0 (resizes-lawful a e b n r pre s post is keep k)
-      (rw (room-split pre s post (is .same))
-      (crumbs-replaced pre (live s ∷ roomTail post) (trim keep (roomWords s post)) (roomAfter post) 0 (trim-crumbs (need n) s keep post k)))
+  resizes-crumbs b n values after (resizes e r pre s asked post is keep k) =
+      written-crumbs _ a 0 (resizes-lawful a e b n r pre s asked post is keep k)
+      (rw (room-split pre s asked post (is .same))
+      (crumbs-replaced pre (live s asked ∷ roomTail post) (trim keep n (roomWords s post)) (roomAfter post) 0 (trim-crumbs (need n) n s asked keep post k)))
 
   -- a block moves: the old one is freed where the need was granted
-  moved-crumbs : (b block count s : ℕ) (ks : List Chunk) → StillThere (copied b block count (written ks a)) b s ks → crumbsIn ks ≤ 0 + crumbsOf a
+  moved-crumbs : (b block count s asked : ℕ) (ks : List Chunk) → StillThere (copied b block count (written ks a)) b s asked ks → crumbsIn ks ≤ 0 + crumbsOf a
       → crumbsOf (written (released (held b ks)) (copied b block count (written ks a))) ≤ crumb s + crumbsOf a
-  moved-crumbs b block count s ks (is-sound, chunks, pre, post, old, found) few =
-      let freed = freed-crumbs (copied b block count (written ks a)) pre s post is-sound (chunks ∙ old .same) in
+  moved-crumbs b block count s asked ks (is-sound, chunks, pre, post, old, found) few =
+      let freed = freed-crumbs (copied b block count (written ks a)) pre s asked post is-sound (chunks ∙ old .same) in
       rw found (omega (arith, freed, few, ap crumbsIn chunks))
 
   -- ---- the calls, done or refused
@@ -197,18 +197,18 @@ module _ (a : List ℕ) where
 
   -- ---- those that free the block, which is a chunk of `s` words
 
-  module _ (b : ℕ) (pre : List Chunk) (s : ℕ) (post : List Chunk) (is : BlockAt a b pre s post) where
+  module _ (b : ℕ) (pre : List Chunk) (s asked : ℕ) (post : List Chunk) (is : BlockAt a b pre s asked post) where
     frees-crumbs : (values after : List ℕ) → Frees a b values after → crumbsOf after ≤ crumb s + crumbsOf a
-    frees-crumbs values after (frees e pre′ s′ post′ is′) =
-        rw (one-block a b pre′ pre s′ s post′ post e is′ is .0) (freed-crumbs a pre′ s′ post′ e (is′ .same))
+    frees-crumbs values after (frees e pre′ s′ asked′ post′ is′) =
+        rw (one-block a b pre′ pre s′ s asked′ asked post′ post e is′ is .0) (freed-crumbs a pre′ s′ asked′ post′ e (is′ .same))
 
     relocates-crumbs : (n : ℕ) (values after : List ℕ) → Relocates a b n values after → crumbsOf after ≤ crumb s + crumbsOf a
-    relocates-crumbs n values after (moves e r pre′ s′ post′ is′ before g behind gap block at-is ks same count shorter) =
-        rw (same, one-block a b pre′ pre s′ s post′ post e is′ is .0)
-        (moved-crumbs b block count s′ _
-        (still-there a (need n) pre′ s′ post′ before g behind b block count e (request-needed (length a) n (sound-lawful a e) r) is′ gap
+    relocates-crumbs n values after (moves e r pre′ s′ asked′ post′ is′ before g behind gap block at-is ks same count shorter) =
+        rw (same, one-block a b pre′ pre s′ s asked′ asked post′ post e is′ is .0)
+        (moved-crumbs b block count s′ asked′ _
+        (still-there a (need n) n pre′ s′ asked′ post′ before g behind b block count e (request-needed (length a) n (sound-lawful a e) r) is′ gap
         (omega arith) at-is)
-        (rw (gap .0) (crumbs-replaced before (free g ∷ []) (cut (need n) g) behind 0 (cut-crumbs (need n) g (gap .1)))))
+        (rw (gap .0) (crumbs-replaced before (free g ∷ []) (cut (need n) n g) behind 0 (cut-crumbs (need n) n g (gap .1)))))
 
     regrants-crumbs : (n : ℕ) (values after : List ℕ) → Regrants a b n values after → crumbsOf after ≤ crumb s + crumbsOf a
     regrants-crumbs n values after (in-place d) = omega (arith, resizes-crumbs b n values after d)

@@ -18,18 +18,18 @@ use Rattle.rules.proofs.Searches.{BlockAt, block-sizes}
 use Rattle.rules.proofs.CallCases.{Case, refuses, does, Measures, measures, size-case}
 
 -- a block has words
-block-words : (a : List ℕ) (b : ℕ) (pre : List Chunk) (s : ℕ) (post : List Chunk) → sound a ≡ true → BlockAt a b pre s post
+block-words : (a : List ℕ) (b : ℕ) (pre : List Chunk) (s asked : ℕ) (post : List Chunk) → sound a ≡ true → BlockAt a b pre s asked post
     → take (s - headerWords) (drop b a) ≢ []
-block-words a b pre s post e is none =
-    let z = block-sizes a b pre s post e is in
-    omega (arith, sound-around a pre (live s) post e (is .same), simp (length-take, length-drop) at (ap length none), z .0, z .1, is .number-is)
+block-words a b pre s asked post e is none =
+    let z = block-sizes a b pre s asked post e is in
+    omega (arith, sound-around a pre (live s asked) post e (is .same), simp (length-take, length-drop) at (ap length none), z .0, z .1, is .number-is)
 
 -- "and the empty part where size of b would be refused"
 pub view-empty : (a : List ℕ) (b : ℕ) → (viewOn a b ≡ []) ↔ (sizeOn a b .answer .code ≢ 0)
 unfolding viewOn
 view-empty a b = go (size-case a b)
   where
-    go : {outcome : Outcome} → Case 1 a (BlockRefused a b) (Measures a b) outcome
+    go : {outcome : Outcome} → Case 2 a (BlockRefused a b) (Measures a b) outcome
         → (take (grantedField (outcome .answer .values)) (drop b a) ≡ []) ↔ (outcome .answer .code ≢ 0)
     go (refuses why r) = (λ empty code. omega (arith, number-positive why), λ code. refl)
-    go (does (measures e pre s post is)) = (λ empty code. block-words a b pre s post e is empty, λ code. absurd (code refl))
+    go (does (measures e pre s asked post is)) = (λ empty code. block-words a b pre s asked post e is empty, λ code. absurd (code refl))

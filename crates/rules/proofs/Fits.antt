@@ -24,8 +24,8 @@ use Rattle.rules.proofs.BestFit.{best-fitting}
 -- the lowest chunk that passes a test which only a chunk that fits passes
 lowest-fits : (test : ℕ → Chunk → Bool) (need : ℕ) → ((c : ℕ) (k : Chunk) → test c k ≡ true → fits need c k ≡ true)
     → (ks pre : List Chunk) (k : Chunk) (post : List Chunk) → lowest test firstChunk ks ≡ at pre k post → Picks ks need (at pre k post)
-lowest-fits test need only ks pre (live s) post e =
-    absurd (false≢true (only _ (live s) (lowest-hit test firstChunk ks pre (live s) post e .2)))
+lowest-fits test need only ks pre (live s asked) post e =
+    absurd (false≢true (only _ (live s asked) (lowest-hit test firstChunk ks pre (live s asked) post e .2)))
 lowest-fits test need only ks pre (free s) post e =
     let h = lowest-hit test firstChunk ks pre (free s) post e in
     a-gap pre s post (h .0, leb-true need s (only _ (free s) (h .2)))

@@ -38,9 +38,9 @@ pub data Asked (size n : ℕ) : Gate → Type 0 where
   for-more : greatestRequest size < n → Asked size n (Shut TooLarge)
   for-some : (1 ≤ n) × (n ≤ greatestRequest size) → Asked size n Open
 
-pub asked : (size n : ℕ) → Asked size n (requestGate size n)
+pub request-asked : (size n : ℕ) → Asked size n (requestGate size n)
 unfolding requestGate
-asked size n = go (eqb n 0) (leb n (greatestRequest size)) refl refl
+request-asked size n = go (eqb n 0) (leb n (greatestRequest size)) refl refl
   where
     go : (z f : Bool) → eqb n 0 ≡ z → leb n (greatestRequest size) ≡ f → Asked size n (cond z (Shut Zero) (cond f Open (Shut TooLarge)))
     go true f e h = for-none (eqb-true n 0 e)
@@ -57,7 +57,7 @@ gate-open a e = go (checked a) e
 
 -- a request that passes its gate is for some words, and no more than there can be
 request-bounds : (size n : ℕ) → Open ≡ requestGate size n → (1 ≤ n) × (n ≤ greatestRequest size)
-request-bounds size n e = go (asked size n) e
+request-bounds size n e = go (request-asked size n) e
   where
     go : {gate : Gate} → Asked size n gate → Open ≡ gate → (1 ≤ n) × (n ≤ greatestRequest size)
     go (for-none z) p = absurd (let z : _≡_ {A = ℕ} 0 1 = cc in omega arith)
@@ -67,12 +67,12 @@ request-bounds size n e = go (asked size n) e
 pub request-small : (size n : ℕ) → lawful size ≡ true → Open ≡ requestGate size n → n ≤ greatestLength
 request-small size n l e = omega (arith, lawful-bounds size l, request-bounds size n e)
 
-pub request-needed : (size n : ℕ) → lawful size ≡ true → (1 ≤ n) × (n ≤ greatestRequest size) → Needed (need n)
+pub request-needed : (size n : ℕ) → lawful size ≡ true → (1 ≤ n) × (n ≤ greatestRequest size) → Needed (need n) n
 request-needed size n l r =
     let b = lawful-bounds size l in
-    record { even = omega arith; least = omega arith; most = omega arith }
+    record { even = omega arith; least = omega arith; most = omega arith; some = r .0; holds = omega arith }
 
-pub request-open : (size n : ℕ) → lawful size ≡ true → Open ≡ requestGate size n → Needed (need n)
+pub request-open : (size n : ℕ) → lawful size ≡ true → Open ≡ requestGate size n → Needed (need n) n
 request-open size n l e = request-needed size n l (request-bounds size n e)
 
 -- ---- the gate that is so

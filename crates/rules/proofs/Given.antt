@@ -15,7 +15,7 @@ use Rattle.layout.specs.declared.Reason.the-variants.{Length, Damaged, NotABloc
 use Rattle.layout.proofs.Reasons.{number-positive, number-injective}
 use Rattle.rules.specs.Answers.{Outcome, done, settle, pass}
 use Rattle.rules.specs.Spots.{held}
-use Rattle.rules.specs.Rules.{Way, released, grantedAt, Regrant, regranted, resized, relocated}
+use Rattle.rules.specs.Rules.{Way, released, askedAt, grantedAt, Regrant, regranted, resized, relocated}
 use Rattle.rules.specs.Calls.{onBlock, granted, startOn, allocBy, freeOn, regrantBy, resizeOn, relocateOn, reallocOn, sizeOn, reportOn}
 use Rattle.layout.proofs.Round.{sound-lawful}
 use Rattle.rules.proofs.Gates.{unlawful-gate, damaged-gate, sound-gate, zero-gate, large-gate, request-gate}
@@ -103,7 +103,7 @@ module _ (a : List ℕ) where
 
   pub size-gives : (b : ℕ) (why : Reason) → BlockRefused a b why → sizeOn a b .answer .code ≡ number why
   unfolding sizeOn
-  size-gives b = block-gives b 1 (grantedAt (held b (chunksOf a)) ∷ []) a
+  size-gives b = block-gives b 2 (askedAt (held b (chunksOf a)) ∷ grantedAt (held b (chunksOf a)) ∷ []) a
 
   pub alloc-by-gives : (policy : Policy) → Fitting policy → (n : ℕ) (why : Reason) → AllocRefused a n why
       → allocBy policy a n .answer .code ≡ number why
@@ -127,10 +127,10 @@ module _ (a : List ℕ) where
   regrant-gives b n last rule room stuck no-room would-move Length l = rw (unlawful-gate a l)
   regrant-gives b n last rule room stuck no-room would-move Damaged (l, s) = rw (damaged-gate a l s)
   regrant-gives b n last rule room stuck no-room would-move NotABlock (e, h) = rw (sound-gate a e, no-block-held a b h)
-  regrant-gives b n last rule room stuck no-room would-move Zero (e, ((pre, s, post, is), z)) =
-      rw (sound-gate a e, block-held a b pre s post e is, zero-gate a n z)
-  regrant-gives b n last rule room stuck no-room would-move TooLarge (e, ((pre, s, post, is), m)) =
-      rw (sound-gate a e, block-held a b pre s post e is, large-gate a n m)
+  regrant-gives b n last rule room stuck no-room would-move Zero (e, ((pre, s, asked, post, is), z)) =
+      rw (sound-gate a e, block-held a b pre s asked post e is, zero-gate a n z)
+  regrant-gives b n last rule room stuck no-room would-move TooLarge (e, ((pre, s, asked, post, is), m)) =
+      rw (sound-gate a e, block-held a b pre s asked post e is, large-gate a n m)
   regrant-gives b n last rule room stuck no-room would-move NoRoom h = no-room h
   regrant-gives b n last rule room stuck no-room would-move Frame h = absurd h
   regrant-gives b n last rule room stuck no-room would-move WouldMove h = would-move h
@@ -139,10 +139,10 @@ module _ (a : List ℕ) where
   pub resize-gives : (b n : ℕ) (why : Reason) → ResizeRefused a b n why → resizeOn a b n .answer .code ≡ number why
   unfolding regrantBy
   resize-gives b n = regrant-gives b n WouldMove resized _ _ (λ h. absurd (h .1))
-      (λ (e, (r, (pre, s, post, is, l))). rw (sound-gate a e, block-held a b pre s post e is, request-gate a n r)
-      (go l (stays-told a b (need n) pre s post e is)))
+      (λ (e, (r, (pre, s, asked, post, is, l))). rw (sound-gate a e, block-held a b pre s asked post e is, request-gate a n r)
+      (go l (stays-told a b (need n) n pre s asked post e is)))
     where
-      go : {pre post : List Chunk} {s : ℕ} {way : Way} → Short s post (need n) → Stays a b (need n) pre s post way
+      go : {pre post : List Chunk} {s : ℕ} {way : Way} → Short s post (need n) → Stays a b (need n) n pre s post way
           → settle 2 a (granted WouldMove way) .answer .code ≡ number WouldMove
       go {post = post} {s = s} l (by-room keep k) = let m = kept-numbers (need n) s keep post k in
           absurd (omega (arith, short-room s post (need n) .0 l))
@@ -151,21 +151,21 @@ module _ (a : List ℕ) where
   pub relocate-gives : (b n : ℕ) (why : Reason) → RelocateRefused a b n why → relocateOn a b n .answer .code ≡ number why
   unfolding regrantBy
   relocate-gives b n = regrant-gives b n NoRoom relocated _ _
-      (λ (e, (r, (pre, s, post, is), h)). rw
-      (sound-gate a e, block-held a b pre s post e is, request-gate a n r, picks-nowhere firstFit first-fitting (need n) (chunksOf a) .1 h))
+      (λ (e, (r, (pre, s, asked, post, is), h)). rw
+      (sound-gate a e, block-held a b pre s asked post e is, request-gate a n r, picks-nowhere firstFit first-fitting (need n) (chunksOf a) .1 h))
       (λ h. absurd (h .1))
 
   -- realloc lacks room where the resize would move the block and the move lacks room
   pub realloc-gives : (b n : ℕ) (why : Reason) → ReallocRefused a b n why → reallocOn a b n .answer .code ≡ number why
   realloc-gives b n =
       regrant-gives b n NoRoom regranted _ _
-      (λ (e, (r, short, h)). let (pre, s, post, is, l) = short in
+      (λ (e, (r, short, h)). let (pre, s, asked, post, is, l) = short in
       let would = resize-gives b n WouldMove (e, (r, short)) in
       rw (
         ← three-ways a b n,
         would,
         refused-unchanged (resize-case a b n) (λ q. omega (arith, would, q)),
         relocate-gives b n NoRoom
-            (e, (r, (pre, s, post, is), h)),
+            (e, (r, (pre, s, asked, post, is), h)),
       ))
       (λ h. absurd (h .1))

@@ -52,28 +52,28 @@ module _ (a : List ℕ) (e : sound a ≡ true) where
   pub chunks-lawful : (ks : List Chunk) → chunksOf a ≡ ks → Lawful (length a) ks
   chunks-lawful ks same = rw same at (sound-chunks a e .law)
 
-  pub freed-lawful : (pre : List Chunk) (s : ℕ) (post : List Chunk) → chunksOf a ≡ pre ++ live s ∷ post
+  pub freed-lawful : (pre : List Chunk) (s asked : ℕ) (post : List Chunk) → chunksOf a ≡ pre ++ live s asked ∷ post
       → Lawful (length a) (joined (pre ++ free s ∷ post))
-  freed-lawful pre s post same =
+  freed-lawful pre s asked post same =
       let l = chunks-lawful _ same in
-      let z = sizes-split pre (live s ∷ post) (l .sizes) .1 in
-      joined-lawful (length a) pre (live s ∷ []) (free s ∷ []) post l (z .0, z .1, tt) refl
+      let z = sizes-split pre (live s asked ∷ post) (l .sizes) .1 in
+      joined-lawful (length a) pre (live s asked ∷ []) (free s ∷ []) post l (z .0, z .1, tt) tt refl
 
   pub allots-lawful : (n : ℕ) → LawfulRequest (length a) n → (pre : List Chunk) (s : ℕ) (post : List Chunk) → GapAt a (need n) pre s post
-      → Lawful (length a) (pre ++ (cut (need n) s ++ post))
+      → Lawful (length a) (pre ++ (cut (need n) n s ++ post))
   allots-lawful n r pre s post (same, enough) =
-      cut-lawful (length a) (need n) pre s post (chunks-lawful _ same) (request-needed (length a) n (sound-lawful a e) r) enough
+      cut-lawful (length a) (need n) n pre s post (chunks-lawful _ same) (request-needed (length a) n (sound-lawful a e) r) enough
 
-  pub resizes-lawful : (b n : ℕ) → LawfulRequest (length a) n → (pre : List Chunk) (s : ℕ) (post : List Chunk) → BlockAt a b pre s post → (keep : ℕ)
-      → KeepsOfRoom (need n) s post keep → Lawful (length a) (pre ++ (trim keep (roomWords s post) ++ roomAfter post))
-  resizes-lawful b n r pre s post is keep k =
-      kept-lawful (length a) (need n) s keep pre post (chunks-lawful _ (is .same)) (request-needed (length a) n (sound-lawful a e) r) k
+  pub resizes-lawful : (b n : ℕ) → LawfulRequest (length a) n → (pre : List Chunk) (s asked : ℕ) (post : List Chunk) → BlockAt a b pre s asked post → (keep : ℕ)
+      → KeepsOfRoom (need n) s post keep → Lawful (length a) (pre ++ (trim keep n (roomWords s post) ++ roomAfter post))
+  resizes-lawful b n r pre s asked post is keep k =
+      kept-lawful (length a) (need n) n s asked keep pre post (chunks-lawful _ (is .same)) (request-needed (length a) n (sound-lawful a e) r) k
 
 -- a block moves
-moved-kept : (a : List ℕ) (b block count s : ℕ) (ks : List Chunk) → StillThere (copied b block count (written ks a)) b s ks
+moved-kept : (a : List ℕ) (b block count s asked : ℕ) (ks : List Chunk) → StillThere (copied b block count (written ks a)) b s asked ks
     → Kept a (written (released (held b ks)) (copied b block count (written ks a)))
-moved-kept a b block count s ks (is-sound, chunks, pre, post, old, found) =
-    let freed = written-kept _ _ (freed-lawful (copied b block count (written ks a)) is-sound pre s post (chunks ∙ old .same)) in
+moved-kept a b block count s asked ks (is-sound, chunks, pre, post, old, found) =
+    let freed = written-kept _ _ (freed-lawful (copied b block count (written ks a)) is-sound pre s asked post (chunks ∙ old .same)) in
     rw found
     (record {
       same-length = freed .same-length ∙ length-copied _ _ _ _ ∙ length-written ks a;
@@ -90,16 +90,16 @@ module _ (a : List ℕ) where
   allots-kept n values after (allots e r pre s post gap) = written-kept _ a (allots-lawful a e n r pre s post gap)
 
   pub frees-kept : (b : ℕ) (values after : List ℕ) → Frees a b values after → Kept a after
-  frees-kept b values after (frees e pre s post is) = written-kept _ a (freed-lawful a e pre s post (is .same))
+  frees-kept b values after (frees e pre s asked post is) = written-kept _ a (freed-lawful a e pre s asked post (is .same))
 
   pub resizes-kept : (b n : ℕ) (values after : List ℕ) → Resizes a b n values after → Kept a after
-  resizes-kept b n values after (resizes e r pre s post is keep k) = written-kept _ a (resizes-lawful a e b n r pre s post is keep k)
+  resizes-kept b n values after (resizes e r pre s asked post is keep k) = written-kept _ a (resizes-lawful a e b n r pre s asked post is keep k)
 
   pub relocates-kept : (b n : ℕ) (values after : List ℕ) → Relocates a b n values after → Kept a after
-  relocates-kept b n values after (moves e r pre s post is before g behind gap block at-is ks same count shorter) =
+  relocates-kept b n values after (moves e r pre s asked post is before g behind gap block at-is ks same count shorter) =
       rw same
-      (moved-kept a b block count s _
-      (still-there a (need n) pre s post before g behind b block count e (request-needed (length a) n (sound-lawful a e) r) is gap
+      (moved-kept a b block count s asked _
+      (still-there a (need n) n pre s asked post before g behind b block count e (request-needed (length a) n (sound-lawful a e) r) is gap
       (omega arith) at-is))
 
   pub regrants-kept : (b n : ℕ) (values after : List ℕ) → Regrants a b n values after → Kept a after
@@ -108,7 +108,7 @@ module _ (a : List ℕ) where
 
   -- size and report leave the words as they were
   pub measures-same : (b : ℕ) (values after : List ℕ) → Measures a b values after → after ≡ a
-  measures-same b values after (measures e pre s post is) = refl
+  measures-same b values after (measures e pre s asked post is) = refl
 
   pub reports-same : (values after : List ℕ) → Reports a values after → after ≡ a
   reports-same values after (reports e) = refl

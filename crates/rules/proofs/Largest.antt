@@ -27,19 +27,19 @@ use Rattle.rules.proofs.Calls.{alloc-by-done}
 widest-even : (ks : List Chunk) → Sizes ks → widest ks % 2 ≡ 0
 widest-even [] z = refl
 widest-even (free s ∷ ks) z = omega (arith, z .0, widest-even ks (z .2))
-widest-even (live s ∷ ks) z = widest-even ks (z .2)
+widest-even (live s asked ∷ ks) z = widest-even ks (z .2)
 
 pub widest-least : (pre : List Chunk) (s : ℕ) (post : List Chunk) → s ≤ widest (pre ++ free s ∷ post)
 widest-least [] s post = omega arith
 widest-least (free t ∷ pre) s post = omega (arith, widest-least pre s post)
-widest-least (live t ∷ pre) s post = widest-least pre s post
+widest-least (live t asked ∷ pre) s post = widest-least pre s post
 
 -- where every free chunk has fewer words, so has the largest
 widest-below : (ks : List Chunk) (words : ℕ) → 1 ≤ words → FreeShorter words ks → widest ks < words
 widest-below [] words one f = one
 widest-below (free s ∷ ks) words one f =
     omega (arith, f [] s ks refl, widest-below ks words one (free-shorter-tail words (free s) ks f))
-widest-below (live s ∷ ks) words one f = widest-below ks words one (free-shorter-tail words (live s) ks f)
+widest-below (live s asked ∷ ks) words one f = widest-below ks words one (free-shorter-tail words (live s asked) ks f)
 
 -- ---- the report
 

@@ -9,7 +9,7 @@ use native.Mathlib.Omega.{arith}
 use borrow.Author.Tests.{leb-true, leb-false, le-leb, lt-leb}
 use Rattle.layout.specs.Numbers.{headerWords, leastSize, leastSplit}
 use Rattle.layout.specs.Chunks.{Chunk, free, live, total}
-use Rattle.layout.proofs.Holds.{Sizes, Lawful, sizes-split, spaced-weaken}
+use Rattle.layout.proofs.Holds.{Sizes, AskedOf, Lawful, sizes-split, spaced-weaken}
 use Rattle.layout.proofs.Replace.{lawful-replaced}
 use Rattle.rules.specs.Rules.{splits, taken, cut}
 use Rattle.rules.specs.Rooms.{Needed}
@@ -37,29 +37,34 @@ takes-all need s few = lt-leb leastSplit (s - need) (omega arith)
 abbrev pub uncut : ℕ → ℕ → List Chunk
 uncut need s = cond (splits need s) (free (s - need) ∷ []) []
 
-pub cut-parts : (need s : ℕ) → cut need s ≡ uncut need s ++ live (taken need s) ∷ []
-cut-parts need s = go (splits need s)
+pub cut-parts : (need w s : ℕ) → cut need w s ≡ uncut need s ++ live (taken need s) w ∷ []
+cut-parts need w s = go (splits need s)
   where
-    go : (over : Bool) → cond over (free (s - need) ∷ live need ∷ []) (live s ∷ []) ≡ cond over (free (s - need) ∷ []) [] ++ live
-        (cond over need s) ∷ []
+    go : (over : Bool) → cond over (free (s - need) ∷ live need w ∷ []) (live s w ∷ []) ≡ cond over (free (s - need) ∷ []) [] ++ live
+        (cond over need s) w ∷ []
     go true = refl
     go false = refl
 
 -- the numbers of a cut of `s` words
-pub record CutNumbers (need s takes : ℕ) (stays parts : List Chunk) : Type 0 where
+pub record CutNumbers (need s takes : ℕ) (stays : List Chunk) : Type 0 where
   pub uncut-total : total stays ≡ s - takes
-  pub cut-total : total parts ≡ s
   pub enough : need ≤ takes
   pub few : takes < need + leastSplit
   pub within : takes ≤ s
 
-pub cut-numbers : (need s : ℕ) → need ≤ s → CutNumbers need s (taken need s) (uncut need s) (cut need s)
+pub cut-numbers : (need s : ℕ) → need ≤ s → CutNumbers need s (taken need s) (uncut need s)
 cut-numbers need s l = go (remainder need s l)
   where
-    go : {over : Bool} → Remainder need s over
-        → CutNumbers need s (cond over need s) (cond over (free (s - need) ∷ []) []) (cond over (free (s - need) ∷ live need ∷ []) (live s ∷ []))
-    go (split o) = record { uncut-total = omega arith; cut-total = omega arith; enough = omega arith; few = omega arith; within = omega arith }
-    go (whole enough few) = record { uncut-total = omega arith; cut-total = omega arith; enough = enough; few = few; within = omega arith }
+    go : {over : Bool} → Remainder need s over → CutNumbers need s (cond over need s) (cond over (free (s - need) ∷ []) [])
+    go (split o) = record { uncut-total = omega arith; enough = omega arith; few = omega arith; within = omega arith }
+    go (whole enough few) = record { uncut-total = omega arith; enough = enough; few = few; within = omega arith }
+
+pub cut-total : (need w s : ℕ) → need ≤ s → total (cut need w s) ≡ s
+cut-total need w s l = go (remainder need s l)
+  where
+    go : {over : Bool} → Remainder need s over → total (cond over (free (s - need) ∷ live need w ∷ []) (live s w ∷ [])) ≡ s
+    go (split o) = omega arith
+    go (whole enough few) = omega arith
 
 -- where the need is longer than an old chunk of `s` words, the shorter of the old block and the new one is the old one
 pub shorter-old : (need s g : ℕ) → s < need → need ≤ g → min (s - headerWords) (taken need g - headerWords) ≡ s - headerWords
@@ -67,17 +72,23 @@ shorter-old need s g l m = omega (arith, cut-numbers need g m .enough)
 
 -- ---- chunks with a cut stay lawful
 
-pub cut-lawful : (n need : ℕ) (pre : List Chunk) (s : ℕ) (post : List Chunk) → Lawful n (pre ++ free s ∷ post) → Needed need → need ≤ s
-    → Lawful n (pre ++ (cut need s ++ post))
-cut-lawful n need pre s post l d enough = go (remainder need s enough)
+pub cut-lawful : (n need w : ℕ) (pre : List Chunk) (s : ℕ) (post : List Chunk) → Lawful n (pre ++ free s ∷ post) → Needed need w → need ≤ s
+    → Lawful n (pre ++ (cut need w s ++ post))
+cut-lawful n need w pre s post l d enough = go (remainder need s enough)
   where
     z : (s % 2 ≡ 0) × (leastSize ≤ s) × Sizes post
     z = sizes-split pre (free s ∷ post) (l .sizes) .1
 
-    go : {over : Bool} → Remainder need s over → Lawful n (pre ++ (cond over (free (s - need) ∷ live need ∷ []) (live s ∷ []) ++ post))
+    -- what is asked for fits the need, and so it does all the words
+    asked-of : (words : ℕ) → need ≤ words → AskedOf words w
+    asked-of words l = record { some = d .some; held = omega (arith, d .holds) }
+
+    go : {over : Bool} → Remainder need s over → Lawful n (pre ++ (cond over (free (s - need) ∷ live need w ∷ []) (live s w ∷ []) ++ post))
     go (split o) =
         let y = z in
-        lawful-replaced n pre (free s ∷ []) (free (s - need) ∷ live need ∷ []) post l (omega (arith, d .even), omega arith, (d .even, d .least, tt))
-        (omega arith)
+        lawful-replaced n pre (free s ∷ []) (free (s - need) ∷ live need w ∷ []) post l (omega (arith, d .even), omega arith, (d .even, d .least, tt))
+        (asked-of need (omega arith), tt) (omega arith)
         (λ joined h. (h .0, spaced-weaken post (h .1)))
-    go (whole enough few) = lawful-replaced n pre (free s ∷ []) (live s ∷ []) post l (z .0, z .1, tt) refl (λ joined h. spaced-weaken post (h .1))
+    go (whole enough few) =
+        lawful-replaced n pre (free s ∷ []) (live s w ∷ []) post l (z .0, z .1, tt) (asked-of s enough, tt) refl
+        (λ joined h. spaced-weaken post (h .1))

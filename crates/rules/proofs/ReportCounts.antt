@@ -33,7 +33,7 @@ pub record Below (n : ℕ) (ks : List Chunk) : Type 0 where
 pub counts-within : (ks : List Chunk) → Sizes ks → Below (total ks) ks
 counts-within [] z = record { words-fit = omega arith; widest-fits = omega arith; blocks-fit = omega arith; chunks-fit = omega arith }
 counts-within (free s ∷ ks) z = let b = counts-within ks (z .2) in omega arith
-counts-within (live s ∷ ks) z = let b = counts-within ks (z .2) in omega arith
+counts-within (live s asked ∷ ks) z = let b = counts-within ks (z .2) in omega arith
 
 -- so the counts of a sound arena are at most the greatest length, and fit a word
 pub counts-small : (a : List ℕ) → sound a ≡ true → Below greatestLength (chunksOf a)
@@ -46,4 +46,4 @@ counts-small a e =
 pub live-or-free : (ks : List Chunk) → length ks ≡ liveBlocks ks + freeChunks ks
 live-or-free [] = omega arith
 live-or-free (free s ∷ ks) = omega (arith, live-or-free ks)
-live-or-free (live s ∷ ks) = omega (arith, live-or-free ks)
+live-or-free (live s asked ∷ ks) = omega (arith, live-or-free ks)

@@ -16,46 +16,46 @@ use Rattle.rules.specs.Rooms.{roomWords, roomAfter}
 abbrev pub roomTail : List Chunk → List Chunk
 roomTail [] = []
 roomTail (free t ∷ ks) = free t ∷ []
-roomTail (live t ∷ ks) = []
+roomTail (live t asked ∷ ks) = []
 
 pub room-parts : (post : List Chunk) → post ≡ roomTail post ++ roomAfter post
 room-parts [] = refl
 room-parts (free t ∷ ks) = refl
-room-parts (live t ∷ ks) = refl
+room-parts (live t asked ∷ ks) = refl
 
 pub room-words : (s : ℕ) (post : List Chunk) → roomWords s post ≡ s + total (roomTail post)
 room-words s [] = omega arith
 room-words s (free t ∷ ks) = omega arith
-room-words s (live t ∷ ks) = omega arith
+room-words s (live t asked ∷ ks) = omega arith
 
 -- the chunks of which it is a part
-pub room-split : {ks : List Chunk} (pre : List Chunk) (s : ℕ) (post : List Chunk) → ks ≡ pre ++ live s ∷ post
-    → ks ≡ pre ++ (live s ∷ roomTail post ++ roomAfter post)
-room-split pre s post same = same ∙ ap (λ (ks : List Chunk). pre ++ live s ∷ ks) (room-parts post)
+pub room-split : {ks : List Chunk} (pre : List Chunk) (s asked : ℕ) (post : List Chunk) → ks ≡ pre ++ live s asked ∷ post
+    → ks ≡ pre ++ (live s asked ∷ roomTail post ++ roomAfter post)
+room-split pre s asked post same = same ∙ ap (λ (ks : List Chunk). pre ++ live s asked ∷ ks) (room-parts post)
 
 -- its words are even in number
-pub room-even : (s : ℕ) (post : List Chunk) → Sizes (live s ∷ post) → roomWords s post % 2 ≡ 0
-room-even s [] z = z .0
-room-even s (free t ∷ ks) z = omega (arith, z .0, z .2 .0)
-room-even s (live t ∷ ks) z = z .0
+pub room-even : (s asked : ℕ) (post : List Chunk) → Sizes (live s asked ∷ post) → roomWords s post % 2 ≡ 0
+room-even s asked [] z = z .0
+room-even s asked (free t ∷ ks) z = omega (arith, z .0, z .2 .0)
+room-even s asked (live t other ∷ ks) z = z .0
 
 -- behind the room stands no free chunk
 pub room-spaced : (post : List Chunk) → Spaced false post → Spaced true (roomAfter post)
 room-spaced [] p = tt
 room-spaced (free t ∷ ks) p = p .1
-room-spaced (live t ∷ ks) p = p
+room-spaced (live t asked ∷ ks) p = p
 
 -- a free chunk in the chunk's place takes the whole room
 pub room-joins : (s : ℕ) (post : List Chunk) → join (free s) post ≡ free (roomWords s post) ∷ roomAfter post
 room-joins s [] = refl
 room-joins s (free t ∷ ks) = refl
-room-joins s (live t ∷ ks) = refl
+room-joins s (live t asked ∷ ks) = refl
 
 -- a free chunk right after a block has at least the least size
 pub room-next : (s : ℕ) (post : List Chunk) → Sizes post → s < roomWords s post → s + leastSize ≤ roomWords s post
 room-next s [] z beside = absurd (omega arith)
 room-next s (free t ∷ ks) z beside = omega (arith, z .1)
-room-next s (live t ∷ ks) z beside = absurd (omega arith)
+room-next s (live t asked ∷ ks) z beside = absurd (omega arith)
 
 -- the words of the chunk and of a free chunk right after it are too few exactly when its room is
 pub short-room : (s : ℕ) (post : List Chunk) (need : ℕ) → Short s post need ↔ (roomWords s post < need)
@@ -66,5 +66,5 @@ short-room s post need = (
   where
     room : (post : List Chunk) → Short s post need → roomWords s post < need
     room [] l = l .own
-    room (live t ∷ post) l = l .own
+    room (live t asked ∷ post) l = l .own
     room (free t ∷ post) l = l .with-next t post refl

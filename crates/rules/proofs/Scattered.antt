@@ -31,15 +31,15 @@ few-free : (ks : List Chunk) → Spaced false ks → freeChunks ks ≤ liveBlock
 few-free [] h = omega arith
 few-free (free s ∷ []) h = omega arith
 few-free (free s ∷ (free t ∷ ks)) h = absurd (true≢false (h .1 .0))
-few-free (free s ∷ (live t ∷ ks)) h = omega (arith, few-free ks (h .1))
-few-free (live s ∷ ks) h = omega (arith, few-free ks h)
+few-free (free s ∷ (live t asked ∷ ks)) h = omega (arith, few-free ks (h .1))
+few-free (live s asked ∷ ks) h = omega (arith, few-free ks h)
 
 -- where each has at most so many words, all have at most so many times their number
 free-most : (most : ℕ) (ks : List Chunk) → FreeShorter (most + 1) ks → freeWords ks ≤ most * freeChunks ks
 free-most most [] f = omega arith
 free-most most (free s ∷ ks) f =
     omega (arith, mul-add most 1 (freeChunks ks), f [] s ks refl, free-most most ks (free-shorter-tail (most + 1) (free s) ks f))
-free-most most (live s ∷ ks) f = free-most most ks (free-shorter-tail (most + 1) (live s) ks f)
+free-most most (live s asked ∷ ks) f = free-most most ks (free-shorter-tail (most + 1) (live s asked) ks f)
 
 -- `most` words are the most of a lawful size below `words`
 abbrev MostBelow : ℕ → ℕ → Type 0

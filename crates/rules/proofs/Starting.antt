@@ -22,7 +22,7 @@ module _ (a : List ℕ) (l : lawful (length a) ≡ true) where
   pub whole-lawful : Lawful (length a) (free (length a - controlWords) ∷ [])
   whole-lawful =
       let b = lawful-bounds (length a) l in
-      record { even = b .0; least = b .1; most = b .2; sizes = (omega arith, omega arith, tt); spaced = (refl, tt); fills = omega arith }
+      record { even = b .0; least = b .1; most = b .2; sizes = (omega arith, omega arith, tt); asks = tt; spaced = (refl, tt); fills = omega arith }
 
   pub start-sound : sound (startOn a .words) ≡ true
   unfolding startOn

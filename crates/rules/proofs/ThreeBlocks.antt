@@ -13,7 +13,7 @@ use Rattle.rules.specs.Calls.{allocBy, allocOn, allocBestOn, allocNextOn
 
 -- chunks of 10, 8 and 12 free words, with a live chunk of 4 between each two: they start at words 2, 16 and 28
 abbrev mixed : List ℕ
-mixed = written (free 10 ∷ live 4 ∷ free 8 ∷ live 4 ∷ free 12 ∷ []) (replicate 40 0)
+mixed = written (free 10 ∷ live 4 2 ∷ free 8 ∷ live 4 1 ∷ free 12 ∷ []) (replicate 40 0)
 
 -- 5 words have a need of 8. The first chunk that fits has 10 words, the best 8, and the next from word 17 on 12, where
 -- the rover goes

@@ -24,13 +24,13 @@ use Rattle.rules.proofs.Remainder.{shorter-old}
 use Rattle.rules.proofs.RegrantCases.{Stays, by-room, by-none, stays-told, Regrantings, all-refused, at-block, regrantings}
 
 -- where the block cannot stay, the three ways come to the move by itself: all its words are as many as both blocks have
-pub else-moves : (a : List ℕ) (b need : ℕ) (pre : List Chunk) (s : ℕ) (post : List Chunk) → sound a ≡ true → BlockAt a b pre s post
-    → let spot = at pre (live s) post in let new = grantFrom need (firstFit need (chunksOf a)) in
-    resized b need spot new a ≡ shut → regranted b need spot new a ≡ relocated b need spot new a
-else-moves a b need pre s post e is q = rw q (go (stays-told a b need pre s post e is) q (first-fitting need (chunksOf a)))
+pub else-moves : (a : List ℕ) (b need w : ℕ) (pre : List Chunk) (s asked : ℕ) (post : List Chunk) → sound a ≡ true → BlockAt a b pre s asked post
+    → let spot = at pre (live s asked) post in let new = grantFrom need w (firstFit need (chunksOf a)) in
+    resized b need w spot new a ≡ shut → regranted b need w spot new a ≡ relocated b need w spot new a
+else-moves a b need w pre s asked post e is q = rw q (go (stays-told a b need w pre s asked post e is) q (first-fitting need (chunksOf a)))
   where
-    go : {way : Way} {gap : Spot} → Stays a b need pre s post way → way ≡ shut → Picks (chunksOf a) need gap
-        → let new = grantFrom need gap in move b (s - headerWords) new a ≡ move b (min (s - headerWords) (grantedIn new)) new a
+    go : {way : Way} {gap : Spot} → Stays a b need w pre s post way → way ≡ shut → Picks (chunksOf a) need gap
+        → let new = grantFrom need w gap in move b (s - headerWords) new a ≡ move b (min (s - headerWords) (grantedIn new)) new a
     go (by-room keep k) h f = absurd (let z : _≡_ {A = ℕ} 0 1 = cc in omega arith)
     go (by-none l) h (no-gap g) = refl
     go (by-none l) h (a-gap before g after gap) = rw (shorter-old need s g (l .own) (gap .1))
@@ -42,7 +42,7 @@ three-ways a b n = go (regrantings a b n ⊥ ⊥) refl
         → cond (eqb (call WouldMove resized .answer .code) (number WouldMove)) (relocateOn (call WouldMove resized .words) b n)
         (call WouldMove resized) ≡ call NoRoom regranted
     go (all-refused why low so) second = rw (ne-eqb (number why) (number WouldMove) (omega arith))
-    go (at-block e r pre s post is) second = ways _ _ _ (else-moves a b (need n) pre s post e is) second
+    go (at-block e r pre s asked post is) second = ways _ _ _ (else-moves a b (need n) n pre s asked post e is) second
       where
         ways : (stays moves alone : Way) → (stays ≡ shut → orElse stays moves ≡ alone) → relocateOn a b n ≡ settle 2 a (granted NoRoom alone)
             → let resize = settle 2 a (granted WouldMove stays) in

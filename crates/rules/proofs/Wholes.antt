@@ -25,17 +25,17 @@ use Rattle.rules.proofs.Keeping.{allots-lawful}
 use Rattle.rules.proofs.BlockNumbers.{relocated-elsewhere}
 
 -- a free chunk becomes live as a whole
-one-less : (pre : List Chunk) (s : ℕ) (post : List Chunk) → 1 + freeChunks (pre ++ live s ∷ post) ≡ freeChunks (pre ++ free s ∷ post)
-one-less [] s post = refl
-one-less (free t ∷ pre) s post = omega (arith, one-less pre s post)
-one-less (live t ∷ pre) s post = one-less pre s post
+one-less : (pre : List Chunk) (s asked : ℕ) (post : List Chunk) → 1 + freeChunks (pre ++ live s asked ∷ post) ≡ freeChunks (pre ++ free s ∷ post)
+one-less [] s asked post = refl
+one-less (free t ∷ pre) s asked post = omega (arith, one-less pre s asked post)
+one-less (live t other ∷ pre) s asked post = one-less pre s asked post
 
 -- a need is taken from a free chunk: just the need, or there is one free chunk less
-cut-whole : (need : ℕ) (pre : List Chunk) (s : ℕ) (post : List Chunk) → headerWords ≤ need → {over : Bool} → Remainder need s over
+cut-whole : (need w : ℕ) (pre : List Chunk) (s : ℕ) (post : List Chunk) → headerWords ≤ need → {over : Bool} → Remainder need s over
     → (headerWords + (cond over need s - headerWords) ≡ need)
-    ⊎ (1 + freeChunks (pre ++ (cond over (free (s - need) ∷ live need ∷ []) (live s ∷ []) ++ post)) ≡ freeChunks (pre ++ free s ∷ post))
-cut-whole need pre s post least (split o) = inl (omega arith)
-cut-whole need pre s post least (whole l few) = inr (one-less pre s post)
+    ⊎ (1 + freeChunks (pre ++ (cond over (free (s - need) ∷ live need w ∷ []) (live s w ∷ []) ++ post)) ≡ freeChunks (pre ++ free s ∷ post))
+cut-whole need w pre s post least (split o) = inl (omega arith)
+cut-whole need w pre s post least (whole l few) = inr (one-less pre s w post)
 
 -- a block that stays keeps just its need, or its whole room
 keeps-whole : (need s keep : ℕ) (post : List Chunk) → headerWords ≤ need → KeepsOfRoom need s post keep
@@ -49,7 +49,7 @@ module _ (a : List ℕ) where
       → (headerWords + grantedField values ≡ need n) ⊎ (1 + freeChunks (chunksOf after) ≡ freeChunks (chunksOf a))
   allots-whole n values after (allots e r pre s post gap) =
       rw (written-sound _ a (allots-lawful a e n r pre s post gap) .1, gap .0)
-      (cut-whole (need n) pre s post (omega arith) (remainder (need n) s (gap .1)))
+      (cut-whole (need n) n pre s post (omega arith) (remainder (need n) s (gap .1)))
 
   -- alloc under any policy that is fitting
   pub alloc-by-whole : (policy : Policy) → Fitting policy → (n : ℕ)
@@ -58,11 +58,11 @@ module _ (a : List ℕ) where
       → (headerWords + grantedField (outcome .answer .values) ≡ need n) ⊎ (1 + freeChunks (chunksOf (outcome .words)) ≡ freeChunks (chunksOf a))
   alloc-by-whole policy fitting n done = allots-whole n _ _ (done-does (alloc-by-case policy fitting a n) done)
 
-  module _ (b : ℕ) (pre : List Chunk) (s : ℕ) (post : List Chunk) (is : BlockAt a b pre s post) (n : ℕ) where
+  module _ (b : ℕ) (pre : List Chunk) (s asked : ℕ) (post : List Chunk) (is : BlockAt a b pre s asked post) (n : ℕ) where
     resizes-whole : (values after : List ℕ) → Resizes a b n values after
         → (headerWords + grantedField values ≡ need n) ⊎ (headerWords + grantedField values ≡ roomWords s post)
-    resizes-whole values after (resizes e r pre′ s′ post′ is′ keep k) =
-        let same = one-block a b pre′ pre s′ s post′ post e is′ is in
+    resizes-whole values after (resizes e r pre′ s′ asked′ post′ is′ keep k) =
+        let same = one-block a b pre′ pre s′ s asked′ asked post′ post e is′ is in
         rw (same .0, same .1) (keeps-whole (need n) s′ keep post′ (omega arith) k)
 
     regrants-whole : (values after : List ℕ) → Regrants a b n values after → blockField values ≡ b

@@ -1,7 +1,7 @@
 -- What a call answers, in the documents' numbers, and what it leaves.
 use Prim.Native.Nat.{ℕ}
 use mathlib.Core.Path.{_≡_}
-use mathlib.Core.List.{List, [], _∷_}
+use mathlib.Core.List.{List}
 use lib.ListN.{getD, replicate}
 use Rattle.layout.specs.declared.Reason.{Reason}
 use Rattle.layout.specs.declared.Reason.the-variants.{Frame}
@@ -21,17 +21,13 @@ success vs = record { code = 0; values = vs }
 abbrev pub refusal : ℕ → Reason → Answer
 refusal fields why = record { code = number why; values = replicate fields 0 }
 
--- the block and the granted words that an answer's fields tell, 0 for what they do not: there are no fields, or granted
--- words alone, or a block and its granted words
+-- the first two of an answer's fields, 0 where there are none: a block and its granted words where a call grants, the
+-- words asked for and those granted where it is size
 abbrev pub blockField : List ℕ → ℕ
-blockField [] = 0
-blockField (granted ∷ []) = 0
-blockField (block ∷ granted ∷ rest) = block
+blockField values = getD values 0 0
 
 abbrev pub grantedField : List ℕ → ℕ
-grantedField [] = 0
-grantedField (granted ∷ []) = granted
-grantedField (block ∷ granted ∷ rest) = granted
+grantedField values = getD values 1 0
 
 -- what a report's fields tell, 0 for what they do not: free words, the largest request that would be granted, live
 -- blocks, free chunks

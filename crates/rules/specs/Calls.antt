@@ -15,8 +15,8 @@ use Rattle.layout.specs.declared.Reason.the-variants.{Length, NotABlock, NoRoom
 use Rattle.rules.specs.Answers.{Answer, grantedField, Outcome, Result, refused, done, settle, pass, Gives}
 use Rattle.rules.specs.Spots.{Spot, nowhere, at, startOf, held}
 use Rattle.rules.specs.Fits.{Policy, firstFit, bestFit, nextFit}
-use Rattle.rules.specs.Rules.{Way, shut, grants, grantFrom, grantedAt, allotted, Regrant, regranted, resized, relocated, released, freeWords}
-use Rattle.rules.specs.Rules.{widest, liveBlocks, freeChunks}
+use Rattle.rules.specs.Rules.{Way, shut, grants, grantFrom, askedAt, grantedAt, allotted, Regrant, regranted, resized, relocated, released}
+use Rattle.rules.specs.Rules.{freeWords, widest, liveBlocks, freeChunks}
 use Rattle.rules.specs.Pictures.{pictureOf, Said, bad, good, said}
 
 -- a call on a block is refused where there is none
@@ -39,7 +39,7 @@ allocBy policy a n =
     settle 2 a
     (pass (arenaGate a)
     (pass (requestGate (length a) n)
-    (granted NoRoom (allotted (grantFrom (need n) (policy (need n) (chunksOf a))) a))))
+    (granted NoRoom (allotted (grantFrom (need n) n (policy (need n) (chunksOf a))) a))))
 
 -- alloc is under first fit, `alloc_best` under best fit, and `alloc_next` under next fit from a rover on
 abbrev pub allocOn : List ℕ → ℕ → Outcome
@@ -75,7 +75,7 @@ regrantBy why rule a b n =
     (pass (arenaGate a)
     (onBlock spot
     (pass (requestGate (length a) n)
-    (granted why (rule b (need n) spot (grantFrom (need n) (firstFit (need n) (chunksOf a))) a)))))
+    (granted why (rule b (need n) n spot (grantFrom (need n) n (firstFit (need n) (chunksOf a))) a)))))
 
 -- the first of the three ways that is open
 abbrev pub reallocOn : List ℕ → ℕ → ℕ → Outcome
@@ -94,13 +94,13 @@ relocateOn a b n = regrantBy NoRoom relocated a b n
 abbrev pub resizeElseRelocate : List ℕ → ℕ → ℕ → Outcome
 resizeElseRelocate a b n = let first = resizeOn a b n in cond (eqb (first .answer .code) (number WouldMove)) (relocateOn (first .words) b n) first
 
--- the granted words of a block
+-- the words that were asked for when a block was granted last, and its granted words
 unfoldable pub sizeOn : List ℕ → ℕ → Outcome
 sizeOn a b =
     let spot = held b (chunksOf a) in
-    settle 1 a (pass (arenaGate a) (onBlock spot (done (grantedAt spot ∷ []) a)))
+    settle 2 a (pass (arenaGate a) (onBlock spot (done (askedAt spot ∷ grantedAt spot ∷ []) a)))
 
--- the part of the arena that is the block: as many words from `b` on as size answers, none where size is refused
+-- the part of the arena that is the block: as many words from `b` on as size answers granted, none where it is refused
 unfoldable pub viewOn : List ℕ → ℕ → List ℕ
 viewOn a b = take (grantedField (sizeOn a b .answer .values)) (drop b a)
 

@@ -52,7 +52,8 @@ pub record Short (s : ℕ) (post : List Chunk) (need : ℕ) : Type 0 where
   pub with-next : (t : ℕ) (rest : List Chunk) → post ≡ freeChunk t ∷ rest → s + t < need
 
 abbrev pub ShortBlock : List ℕ → ℕ → ℕ → Type 0
-ShortBlock a b need = (pre : List Chunk) × (s : ℕ) × (post : List Chunk) × Stands (chunksOf a) pre (live s) post b × Short s post need
+ShortBlock a b need =
+    (pre : List Chunk) × (s : ℕ) × (asked : ℕ) × (post : List Chunk) × Stands (chunksOf a) pre (live s asked) post b × Short s post need
 
 -- the three calls that grant a block anew; they differ in the last two
 abbrev pub RegrantRefused : List ℕ → ℕ → ℕ → (room stuck : Type 0) → Reason → Type 0
@@ -106,7 +107,7 @@ callFields (free b) = 0
 callFields (resize b w) = 2
 callFields (relocate b w) = 2
 callFields (realloc b w) = 2
-callFields (size b) = 1
+callFields (size b) = 2
 callFields (view b) = 0
 callFields report = 4
 callFields (write text) = 1

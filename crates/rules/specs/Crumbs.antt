@@ -22,4 +22,4 @@ crumbs stretches = counted crumb stretches
 abbrev pub freeSizes : List Chunk → List ℕ
 freeSizes [] = []
 freeSizes (free s ∷ ks) = s ∷ freeSizes ks
-freeSizes (live s ∷ ks) = freeSizes ks
+freeSizes (live s asked ∷ ks) = freeSizes ks

@@ -16,7 +16,7 @@ Policy = ℕ → List Chunk → Spot
 -- a chunk fits a need: it is free, and its size is at least the need
 abbrev pub fits : ℕ → ℕ → Chunk → Bool
 fits need c (free s) = leb need s
-fits need c (live s) = false
+fits need c (live s asked) = false
 
 -- it fits, and starts at word `rover` or above
 abbrev pub fitsFrom : ℕ → ℕ → ℕ → Chunk → Bool
@@ -40,7 +40,7 @@ firstFit need ks = lowest (fits need) firstChunk ks
 -- best fit: the smallest free chunk that fits, the lowest of equals
 unfoldable pub bestFit : Policy
 bestFit need [] = nowhere
-bestFit need (live s ∷ ks) = behind (live s) (bestFit need ks)
+bestFit need (live s asked ∷ ks) = behind (live s asked) (bestFit need ks)
 bestFit need (free s ∷ ks) = tighter (cond (leb need s) (at [] (free s) ks) nowhere) (behind (free s) (bestFit need ks))
 
 -- next fit: from the rover on, the lowest free chunk that fits; once round, the lowest of all

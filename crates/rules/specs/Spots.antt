@@ -29,7 +29,7 @@ lowest test c (k ∷ ks) = cond (test c k) (at [] k ks) (behind k (lowest test (
 -- a chunk is block `b`: it is live, and its header ends at `b`
 abbrev pub isBlock : ℕ → ℕ → Chunk → Bool
 isBlock b c (free s) = false
-isBlock b c (live s) = eqb (c + headerWords) b
+isBlock b c (live s asked) = eqb (c + headerWords) b
 
 -- the live chunk that block number `b` names
 abbrev pub held : ℕ → List Chunk → Spot

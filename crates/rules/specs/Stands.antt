@@ -13,7 +13,7 @@ pub record Stands (ks pre : List Chunk) (k : Chunk) (post : List Chunk) (b : ℕ
 
 -- `b` is a block's number: that of the live chunk of `s` words between `pre` and `post`
 abbrev pub SomeBlock : List ℕ → ℕ → Type 0
-SomeBlock a b = (pre : List Chunk) × (s : ℕ) × (post : List Chunk) × Stands (chunksOf a) pre (live s) post b
+SomeBlock a b = (pre : List Chunk) × (s : ℕ) × (asked : ℕ) × (post : List Chunk) × Stands (chunksOf a) pre (live s asked) post b
 
 -- `b` is no block's number
 abbrev pub NoBlock : List ℕ → ℕ → Type 0

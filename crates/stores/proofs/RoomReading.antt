@@ -26,7 +26,7 @@ use Rattle.stores.specs.declared.release.Room.{Room}
 firstFree-past : (c : ℕ) (ks : List Chunk) (d : ℕ) → 0 < d → d < c → firstFree c ks 0 ≢ d
 firstFree-past c [] d n h = omega arith
 firstFree-past c (free s ∷ ks) d n h = omega arith
-firstFree-past c (live s ∷ ks) d n h = firstFree-past (c + s) ks d n (omega arith)
+firstFree-past c (live s asked ∷ ks) d n h = firstFree-past (c + s) ks d n (omega arith)
 
 -- the free chunk at `next`, right after it, is in the arena and belongs to the room
 abbrev pub NextJoins : List ℕ → ℕ → List Chunk → ℕ → ℕ → ℕ → Type 0
@@ -34,8 +34,8 @@ NextJoins a s post chunk size next =
     (leastSize ≤ getD a next 0) × (next + getD a next 0 ≤ length a)
     × HasRoom s post chunk (record { words = size + getD a next 0; next = getD a (next + 1) 0 })
 
-module _ (a : List ℕ) (pre : List Chunk) (s : ℕ) (link chunk : ℕ) where
-  next-joins : (post : List Chunk) → Reads a pre (live s) post link chunk
+module _ (a : List ℕ) (pre : List Chunk) (s asked : ℕ) (link chunk : ℕ) where
+  next-joins : (post : List Chunk) → Reads a pre (live s asked) post link chunk
       → firstFree (chunk + s) post 0 ≡ chunk + s → NextJoins a s post chunk s (chunk + s)
   next-joins [] r e = absurd (omega arith)
   next-joins (free t ∷ ks) r e =
@@ -43,7 +43,7 @@ module _ (a : List ℕ) (pre : List Chunk) (s : ℕ) (link chunk : ℕ) where
       let z : (t % 2 ≡ 0) × (leastSize ≤ t) × Sizes ks = r .sizes-after in
       rw (h .1, chain-next a link (chunk + s) t ks h)
       (z .1, omega arith, record { words-are = refl; next-is = ap (λ (c : ℕ). firstFree c ks 0) (omega arith) })
-  next-joins (live t ∷ ks) r e =
+  next-joins (live t other ∷ ks) r e =
       let z : (t % 2 ≡ 0) × (leastSize ≤ t) × Sizes ks = r .sizes-after in
       absurd (firstFree-past (chunk + s + t) ks (chunk + s) (omega arith) (omega arith) e)
 
@@ -51,7 +51,7 @@ module _ (a : List ℕ) (pre : List Chunk) (s : ℕ) (link chunk : ℕ) where
       → HasRoom s post chunk (record { words = s; next = firstFree (chunk + s) post 0 })
   next-apart [] n = record { words-are = refl; next-is = refl }
   next-apart (free t ∷ ks) n = absurd (n refl)
-  next-apart (live t ∷ ks) n = record { words-are = refl; next-is = refl }
+  next-apart (live t other ∷ ks) n = record { words-are = refl; next-is = refl }
 
 -- what the code reads
 pub record Around (a : List ℕ) (link chunk size next : ℕ) : Type 0 where
@@ -62,24 +62,24 @@ pub record Around (a : List ℕ) (link chunk size next : ℕ) : Type 0 where
   pub next-inside : next ≤ length a
   pub next-room : next ≡ chunk + size → (leastSize ≤ getD a next 0) × (next + getD a next 0 ≤ length a)
 
-module _ (a : List ℕ) (pre : List Chunk) (s : ℕ) (post : List Chunk) (link chunk size next : ℕ) (st : Placed a pre (live s) post link chunk)
+module _ (a : List ℕ) (pre : List Chunk) (s asked : ℕ) (post : List Chunk) (link chunk size next : ℕ) (st : Placed a pre (live s asked) post link chunk)
     (size-is : size ≡ getD a chunk 0) (next-is : next ≡ getD a link 0) where
   pub room-beside : next ≡ chunk + size → NextJoins a s post chunk size next
   room-beside b =
-      let r = reads a pre (live s) post link chunk st in
+      let r = reads a pre (live s asked) post link chunk st in
       let own : size ≡ s = size-is ∙ r .size-is in
-      rw (b, own) (next-joins a pre s link chunk post r (omega (arith, r .names)))
+      rw (b, own) (next-joins a pre s asked link chunk post r (omega (arith, r .names)))
 
   pub room-alone : next ≢ chunk + size → HasRoom s post chunk (record { words = size; next = next })
   room-alone n =
-      let r = reads a pre (live s) post link chunk st in
+      let r = reads a pre (live s asked) post link chunk st in
       let own : size ≡ s = size-is ∙ r .size-is in
-      rw (own, next-is, r .names) (next-apart a pre s link chunk post (λ e. n (omega (arith, r .names))))
+      rw (own, next-is, r .names) (next-apart a pre s asked link chunk post (λ e. n (omega (arith, r .names))))
 
 pub around : (a : List ℕ) (link chunk size next : ℕ) → LiveAt a link chunk → size ≡ getD a chunk 0 → next ≡ getD a link 0
     → Around a link chunk size next
-around a link chunk size next (pre, s, post, st) e q =
-    let r = reads a pre (live s) post link chunk st in
+around a link chunk size next (pre, s, asked, post, st) e q =
+    let r = reads a pre (live s asked) post link chunk st in
     let n = firstFree-within (chunk + s) post in
     record {
       below = r .below;
@@ -87,7 +87,7 @@ around a link chunk size next (pre, s, post, st) e q =
       inside = omega arith;
       most = r .most;
       next-inside = omega (arith, r .names);
-      next-room = λ b. let x = room-beside a pre s post link chunk size next st e q b in (x .0, x .1);
+      next-room = λ b. let x = room-beside a pre s asked post link chunk size next st e q b in (x .0, x .1);
     }
 
 -- ---- the stores
@@ -99,15 +99,15 @@ pub record Bounds (a : List ℕ) (s : ℕ) (post : List Chunk) (chunk : ℕ) (ro
   pub fits : chunk + room .words + total (roomAfter post) ≡ length a
   pub next-fits : room .next ≤ length a
 
-module _ (a : List ℕ) (pre : List Chunk) (s : ℕ) (post : List Chunk) (link chunk : ℕ) (st : Placed a pre (live s) post link chunk)
+module _ (a : List ℕ) (pre : List Chunk) (s asked : ℕ) (post : List Chunk) (link chunk : ℕ) (st : Placed a pre (live s asked) post link chunk)
     (room : Room) (has : HasRoom s post chunk room) where
   pub bounds : Bounds a s post chunk room
   bounds =
-      let r = reads a pre (live s) post link chunk st in
+      let r = reads a pre (live s asked) post link chunk st in
       let w : room .words ≡ s + total (roomTail post) = has .words-are ∙ room-words s post in
       let p : total post ≡ total (roomTail post) + total (roomAfter post) =
       ap total (room-parts post) ∙ total-append (roomTail post) (roomAfter post) in
-      let e = room-even s post (r .even, r .least, r .sizes-after) in
+      let e = room-even s asked post (r .even, r .least, r .sizes-after) in
       let f = firstFree-within (chunk + roomWords s post) (roomAfter post) in
       record {
         even = omega (arith, has .words-are);
@@ -122,9 +122,9 @@ module _ (a : List ℕ) (pre : List Chunk) (s : ℕ) (post : List Chunk) (link c
       → written (pre ++ (new ++ roomAfter post)) a ≡ roomWritten link chunk new (room .next) a
   unfolding roomWritten
   become new z t =
-      let r = reads a pre (live s) post link chunk st in
+      let r = reads a pre (live s asked) post link chunk st in
       let w : room .words ≡ s + total (roomTail post) = has .words-are ∙ room-words s post in
-      let q : Arena a (pre ++ (live s ∷ roomTail post ++ roomAfter post)) = rw (room-parts post) at (r .arena) in
+      let q : Arena a (pre ++ (live s asked ∷ roomTail post ++ roomAfter post)) = rw (room-parts post) at (r .arena) in
       rw (has .next-is, st .link-is)
-      (replaced a pre (live s ∷ roomTail post) new (roomAfter post) chunk (chunk + roomWords s post) q (r .at-is)
+      (replaced a pre (live s asked ∷ roomTail post) new (roomAfter post) chunk (chunk + roomWords s post) q (r .at-is)
       (omega (arith, room-words s post)) z (omega arith))

@@ -17,29 +17,38 @@ use Rattle.stores.specs.Taken.{Took}
 
 -- ---- the words of a free chunk that fits: its size, and where the next free one starts
 
-pub record Gap (a : List ℕ) (link chunk need size next : ℕ) : Type 0 where
+pub record Gap (a : List ℕ) (link chunk need w size next : ℕ) : Type 0 where
   pub enough : need ≤ size
   pub least : leastSize ≤ need
   pub below : link < chunk
   pub inside : chunk + size ≤ length a
   pub most : length a ≤ greatestLength
   pub next-inside : next ≤ length a
+  pub asked-small : w ≤ greatestLength
 
-pub gap : (a : List ℕ) (link chunk need size next : ℕ) → FitsAt a link chunk need → size ≡ getD a chunk 0 → next ≡ getD a (chunk + 1) 0
-    → Gap a link chunk need size next
-gap a link chunk need size next (pre, s, post, st, fits, m) e q =
+pub gap : (a : List ℕ) (link chunk need w size next : ℕ) → FitsAt a link chunk need w → size ≡ getD a chunk 0 → next ≡ getD a (chunk + 1) 0
+    → Gap a link chunk need w size next
+gap a link chunk need w size next (pre, s, post, st, fits, m) e q =
     let r = reads a pre (free s) post link chunk st in
     let n = firstFree-within (chunk + s) post in
-    let w = chain-next a link chunk s post (r .leads) in
-    record { enough = omega arith; least = omega arith; below = omega arith; inside = omega arith; most = omega arith; next-inside = omega arith }
+    let named = chain-next a link chunk s post (r .leads) in
+    record {
+      enough = omega arith;
+      least = omega arith;
+      below = omega arith;
+      inside = omega arith;
+      most = omega arith;
+      next-inside = omega arith;
+      asked-small = omega (arith, m .holds, m .most);
+    }
 
 -- ---- the stores
 
-module _ (a : List ℕ) (pre : List Chunk) (s : ℕ) (post : List Chunk) (link chunk need size next : ℕ) (st : Placed a pre (free s) post link chunk)
+module _ (a : List ℕ) (pre : List Chunk) (s : ℕ) (post : List Chunk) (link chunk need w size next : ℕ) (st : Placed a pre (free s) post link chunk)
     (size-is : size ≡ getD a chunk 0) (next-is : next ≡ getD a (chunk + 1) 0) where
   -- too few words would be over: the chunk is taken whole
   pub took-whole : size - need < leastSplit
-      → Took a pre s post need (record { chunk = chunk; words = size }) (header chunk size liveMark (set a link next))
+      → Took a pre s post need w (record { chunk = chunk; words = size }) (header chunk size (liveMark + w) (set a link next))
   unfolding write
   took-whole few =
       let r = reads a pre (free s) post link chunk st in
@@ -49,13 +58,13 @@ module _ (a : List ℕ) (pre : List Chunk) (s : ℕ) (post : List Chunk) (link c
         starts = rw no (omega (arith, r .at-is));
         has = rw no all;
         leaves = rw (no, all, next-is, chain-next a link chunk s post (r .leads), st .link-is)
-            (sym (replaced a pre (free s ∷ []) (live s ∷ []) post chunk (chunk + s) (r .arena) (r .at-is) (omega arith)
+            (sym (replaced a pre (free s ∷ []) (live s w ∷ []) post chunk (chunk + s) (r .arena) (r .at-is) (omega arith)
             (r .even, r .least, tt) refl));
       }
 
-  pub took-split : Needed need → need ≤ size → leastSplit ≤ size - need
-      → Took a pre s post need (record { chunk = chunk + (size - need); words = need })
-      (header (chunk + (size - need)) need liveMark (header chunk (size - need) next a))
+  pub took-split : Needed need w → need ≤ size → leastSplit ≤ size - need
+      → Took a pre s post need w (record { chunk = chunk + (size - need); words = need })
+      (header (chunk + (size - need)) need (liveMark + w) (header chunk (size - need) next a))
   unfolding write
   took-split d enough over =
       let r = reads a pre (free s) post link chunk st in
@@ -66,6 +75,6 @@ module _ (a : List ℕ) (pre : List Chunk) (s : ℕ) (post : List Chunk) (link c
         has = rw yes;
         leaves = rw (yes, all, next-is, chain-next a link chunk s post (r .leads))
             (sym (
-            replaced-same a pre (free s ∷ []) (free (s - need) ∷ live need ∷ []) post chunk (chunk + s) (r .arena) (r .at-is) (omega arith)
+            replaced-same a pre (free s ∷ []) (free (s - need) ∷ live need w ∷ []) post chunk (chunk + s) (r .arena) (r .at-is) (omega arith)
             (omega (arith, d .even), omega arith, (d .even, d .least, tt)) (omega arith) refl));
       }

@@ -20,12 +20,12 @@ pub record HasRoom (s : ℕ) (post : List Chunk) (chunk : ℕ) (room : Room) : T
 
 abbrev pub RoomAt : List ℕ → ℕ → ℕ → Room → Type 0
 RoomAt a link chunk room =
-    (pre : List Chunk) (s : ℕ) (post : List Chunk) → Placed a pre (live s) post link chunk → HasRoom s post chunk room
+    (pre : List Chunk) (s asked : ℕ) (post : List Chunk) → Placed a pre (live s asked) post link chunk → HasRoom s post chunk room
 
 -- the live chunk that stands at `chunk` was freed
 abbrev pub FreedAt : List ℕ → ℕ → ℕ → List ℕ → Type 0
 FreedAt a link chunk after =
-    (pre : List Chunk) (s : ℕ) (post : List Chunk) → Placed a pre (live s) post link chunk → after ≡ written (released (at pre (live s) post)) a
+    (pre : List Chunk) (s asked : ℕ) (post : List Chunk) → Placed a pre (live s asked) post link chunk → after ≡ written (released (at pre (live s asked) post)) a
 
 -- the words `a` once the room of the chunk at `chunk` is the chunks `new`: word `link` names the first free chunk from
 -- there on, and `next` is the start of the first one behind the room, or 0

@@ -5,9 +5,9 @@ pub mod taking;
 
 use layout::wide;
 ghost use mathlib.Core.Path.{_≡_};
-ghost use Prim.Native.Nat.{_+_, _<_};
+ghost use Prim.Native.Nat.{_+_, _≤_, _<_};
 ghost use lib.ListN.{length, set};
-ghost use Rattle.layout.specs.Numbers.{wordValues, liveMark};
+ghost use Rattle.layout.specs.Numbers.{greatestLength, wordValues, liveMark};
 ghost use Rattle.layout.specs.Chunks.{header};
 ghost use Rattle.rules.specs.Rules.{copied};
 ghost use Rattle.stores.specs.Beside.{Beside};
@@ -32,12 +32,12 @@ pub fn put(a: &mut [u32], i: usize, v: usize, w: usize)
     change(a, i + 1, w);
 }
 
-// The header of a live chunk of `words` words at word `i`.
-pub fn put_live(a: &mut [u32], i: usize, words: usize)
-    requires { ⌜ (i + 1 < length (now a)) × (words < wordValues) ⌝ }
-    ensures { λ _. ⌜ now (a .exit) ≡ header i words liveMark (now (a .entry)) ⌝ }
+// The header of a live chunk of `words` words at word `i`, where `asked` words were asked for.
+pub fn put_live(a: &mut [u32], i: usize, words: usize, asked: u32)
+    requires { ⌜ (i + 1 < length (now a)) × (words < wordValues) × (asked ≤ greatestLength) ⌝ }
+    ensures { λ _. ⌜ now (a .exit) ≡ header i words (liveMark + asked) (now (a .entry)) ⌝ }
 {
-    put(a, i, words, wide(layout::LIVE_MARK));
+    put(a, i, words, wide(layout::live_word(asked)));
 }
 
 // Copies `count` words from word `from` on to the words from `to` on. The two runs of words do not overlap.

@@ -58,10 +58,10 @@ module _ (a : List ℕ) (n : ℕ) where
   -- a need: whoever grants what a policy picks for it does what the call under that policy comes to
   pub record Wanting (words : ℕ) : Type 0 where
     pub is-sound : sound a ≡ true
-    pub needed : Needed words
+    pub needed : Needed words n
     pub words-are : words ≡ need n
     pub gives : (policy : Policy) {answer : Answer} {after : List ℕ}
-        → Gives (settle 2 a (granted NoRoom (allotting words (policy words (chunksOf a)) a))) answer after → Gives (allocBy policy a n) answer after
+        → Gives (settle 2 a (granted NoRoom (allotting words n (policy words (chunksOf a)) a))) answer after → Gives (allocBy policy a n) answer after
 
   pub ask-wanted : (words : ℕ) → Need words ≡ askedFor a n → Wanting words
   unfolding allocBy askedFor needIn
@@ -85,10 +85,10 @@ module _ (a : List ℕ) (n : ℕ) where
 -- what a search by a fitting policy answered is picked, and to grant it is the call under that policy
 module _ (policy : Policy) (fitting : Fitting policy) {a : List ℕ} {n words : ℕ} (w : Wanting a n words) {place : Place}
     (searched : place ≡ placeOf (policy words (chunksOf a))) where
-  pub picked-by : Picked a words place
+  pub picked-by : Picked a words n place
   picked-by = (w .is-sound, w .needed, (policy words (chunksOf a), (fitting words (chunksOf a), searched)))
 
-  pub granted-by : (answer : Granted) (after : List ℕ) → GrantsFrom a words place answer after
+  pub granted-by : (answer : Granted) (after : List ℕ) → GrantsFrom a words n place answer after
       → Gives (allocBy policy a n) (grantedNumbers answer) after
   granted-by answer after g = w .gives policy (g (policy words (chunksOf a)) (fitting words (chunksOf a), searched))
 
@@ -110,14 +110,14 @@ module _ (a : List ℕ) (rover n : ℕ) where
       let told = w .gives (nextFit rover) (record { answers = refl; leaves = refl }) .answers in
       rw (← told, ← w .words-are) (go (nextFit rover words (chunksOf a)))
     where
-      go : (spot : Spot) → cond (eqb (settle 2 a (granted NoRoom (allotting words spot a)) .answer .code) 0) (startOf spot) rover
+      go : (spot : Spot) → cond (eqb (settle 2 a (granted NoRoom (allotting words n spot a)) .answer .code) 0) (startOf spot) rover
           ≡ startIn rover (placeOf spot)
       go nowhere = refl
       go (at pre k post) = refl
 
   -- otherwise it is where the chunk starts that was found, if one was
   pub found-roves : {words : ℕ} (w : Wanting a n words) {place : Place} → place ≡ placeOf (nextFit rover words (chunksOf a))
-      → (answer : Granted) (after : List ℕ) → GrantsFrom a words place answer after
+      → (answer : Granted) (after : List ℕ) → GrantsFrom a words n place answer after
       → Roves a rover n (grantedNumbers answer) after (startIn rover place)
   found-roves {words} w searched answer after g =
       record {

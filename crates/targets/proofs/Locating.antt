@@ -75,14 +75,14 @@ module _ (a : List ℕ) (b n : ℕ) where
       go (Chunk link chunk) q (Shut r) h p =
           let is : why ≡ r = cc in
           let (opened, found) = block-located a b link chunk (sym q) in
-          rw (opened, found .3, h, is) (record { answers = refl; leaves = refl })
+          rw (opened, found .4, h, is) (record { answers = refl; leaves = refl })
       go (Chunk link chunk) q Open h p = absurd (let z : _≡_ {A = ℕ} 0 1 = cc in omega arith)
 
   -- a live chunk and a need: whoever follows a rule there does what the call of that rule comes to
   pub record Aimed (link chunk words : ℕ) : Type 0 where
     pub stands : LiveAt a link chunk
-    pub needed : Needed words
-    pub gives : (last : Reason) (rule : Regrant) (answer : Way) (after : List ℕ) → FollowsAt rule a link chunk words answer after
+    pub needed : Needed words n
+    pub gives : (last : Reason) (rule : Regrant) (answer : Way) (after : List ℕ) → FollowsAt rule a link chunk words n answer after
         → Gives (regrantBy last rule a b n) (grantedNumbers (grantedOf last answer)) after
 
   pub target-aimed : (link chunk words : ℕ) → Block link chunk words ≡ targetOf a b n → Aimed link chunk words
@@ -98,9 +98,9 @@ module _ (a : List ℕ) (b n : ℕ) where
           let is : Chunk link chunk ≡ located a b = cc in
           let same : words ≡ need n = cc in
           let (opened, found) = block-located a b link chunk is in
-          let (pre, s, post, spot, st, number) = found in
+          let (pre, s, asked, post, spot, st, number) = found in
           record {
-            stands = (pre, s, post, st);
+            stands = (pre, s, asked, post, st);
             needed = rw same (request-open (length a) n (sound-lawful a (st .is-sound)) (sym h));
-            gives = λ last rule answer after f. rw (opened, spot, h) (way-gives last _ a answer after (rw (same, number) at (f pre s post st)));
+            gives = λ last rule answer after f. rw (opened, spot, h) (way-gives last _ a answer after (rw (same, number) at (f pre s asked post st)));
           }

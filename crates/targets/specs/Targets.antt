@@ -72,9 +72,9 @@ grantedOf why (Grants block granted) = NewBlock block granted
 grantedOf why NoWay = NotGranted why
 
 -- what was picked for a need is granted as an alloc answers it
-abbrev pub GrantsFrom : List ℕ → ℕ → Place → Granted → List ℕ → Type 0
-GrantsFrom a need place answer after =
-    (spot : Spot) → PickedAt a need place spot → Gives (settle 2 a (granted NoRoom (allotting need spot a))) (grantedNumbers answer) after
+abbrev pub GrantsFrom : List ℕ → ℕ → ℕ → Place → Granted → List ℕ → Type 0
+GrantsFrom a need asked place answer after =
+    (spot : Spot) → PickedAt a need place spot → Gives (settle 2 a (granted NoRoom (allotting need asked spot a))) (grantedNumbers answer) after
 
 -- the start of a chunk that a search found, `rover` where it found none
 abbrev pub startIn : ℕ → Place → ℕ

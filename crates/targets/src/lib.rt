@@ -100,12 +100,12 @@ pub fn answer(way: Way, why: Reason) -> Granted
     }
 }
 
-// A new block from the free chunk that a search found, as an alloc answers it.
-pub fn grant(a: &mut [u32], place: Place, need: usize) -> Granted
-    requires { ⌜ Picked (now a) need place ⌝ }
-    ensures { λ r. ⌜ GrantsFrom (now (a .entry)) need place r (now (a .exit)) ⌝ }
+// A new block for a request of `asked` words, from the free chunk that a search found, as an alloc answers it.
+pub fn grant(a: &mut [u32], place: Place, need: usize, asked: u32) -> Granted
+    requires { ⌜ Picked (now a) need asked place ⌝ }
+    ensures { λ r. ⌜ GrantsFrom (now (a .entry)) need asked place r (now (a .exit)) ⌝ }
 {
-    answer(ways::allot(a, place, need), Reason::NoRoom)
+    answer(ways::allot(a, place, need, asked), Reason::NoRoom)
 }
 
 // The start of a chunk that a search found; `rover` where it found none.

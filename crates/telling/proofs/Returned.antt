@@ -33,8 +33,9 @@ pub granted-returned : (r : Granted)
 granted-returned (Block block granted) = refl
 granted-returned (NotGranted why) = refl
 
-pub sized-returned : (r : Sized) → let x = padded (sizedNumbers r) in returned (x .code) (getD (x .fields) 0 0 ∷ []) ≡ sizedNumbers r
-sized-returned (Words granted) = refl
+pub sized-returned : (r : Sized)
+    → let x = padded (sizedNumbers r) in returned (x .code) (getD (x .fields) 0 0 ∷ getD (x .fields) 1 0 ∷ []) ≡ sizedNumbers r
+sized-returned (Words asked granted) = refl
 sized-returned (NotSized why) = refl
 
 pub reported-returned : (r : Reported)

@@ -24,12 +24,7 @@ pub fn tell_finish(finish: Finish) -> u32
 pub fn tell_granted(granted: Granted, answer: &mut [u32; 2]) -> u32
     ensures { λ r. ⌜ returned r (now (answer .exit)) ≡ grantedNumbers granted ⌝ }
 {
-    let numbers = answers::granted_numbers(granted);
-    let fields = numbers.fields;
-    let block = fields[0];
-    let words = fields[1];
-    *answer = [block, words];
-    numbers.code
+    tell_two(answers::granted_numbers(granted), answer)
 }
 
 // What next fit tells: the code, and the rover afterwards.
@@ -51,27 +46,32 @@ pub fn call_next(a: &mut [u32], rover: u32, n: u32, answer: &mut [u32; 2]) -> Ne
     }
 }
 
-// The granted words of a block go into the lent array.
-pub fn tell_sized(sized: Sized, answer: &mut [u32; 1]) -> u32
+// The words that were asked for and those granted go into the lent array.
+pub fn tell_sized(sized: Sized, answer: &mut [u32; 2]) -> u32
     ensures { λ r. ⌜ returned r (now (answer .exit)) ≡ sizedNumbers sized ⌝ }
 {
-    tell_first(answers::sized_numbers(sized), answer)
+    tell_two(answers::sized_numbers(sized), answer)
+}
+
+// The first two fields go into the lent array, which has room for them; the code is handed back.
+fn tell_two(numbers: Numbers, answer: &mut [u32; 2]) -> u32
+    ensures { λ r. ⌜ returned r (now (answer .exit)) ≡ returned (numbers .code) (getD (numbers .fields) 0 0 ∷ getD (numbers .fields) 1 0 ∷ []) ⌝ }
+{
+    let fields = numbers.fields;
+    let first = fields[0];
+    let second = fields[1];
+    *answer = [first, second];
+    numbers.code
 }
 
 // The bytes of a picture go into the lent array.
 pub fn tell_written(written: Written, answer: &mut [u32; 1]) -> u32
     ensures { λ r. ⌜ returned r (now (answer .exit)) ≡ writtenNumbers written ⌝ }
 {
-    tell_first(answers::written_numbers(written), answer)
-}
-
-// The first field goes into the lent array, which has room for one; the code is handed back.
-fn tell_first(numbers: Numbers, answer: &mut [u32; 1]) -> u32
-    ensures { λ r. ⌜ returned r (now (answer .exit)) ≡ returned (numbers .code) (getD (numbers .fields) 0 0 ∷ []) ⌝ }
-{
+    let numbers = answers::written_numbers(written);
     let fields = numbers.fields;
-    let first = fields[0];
-    *answer = [first];
+    let bytes = fields[0];
+    *answer = [bytes];
     numbers.code
 }
 

@@ -1,13 +1,12 @@
 -- The laws of the walk's loop past live chunks, and of what comes behind them, by the tests that the code makes.
 use Prim.Native.Nat.{ℕ, zero, suc, _+_, _-_, _<_, _≤_}
 use mathlib.Core.Path.{_≡_, refl, sym, _∙_}
-use mathlib.Core.Bool.{Bool, true, false, cond}
+use mathlib.Core.Bool.{true, false, cond}
 use mathlib.Core.List.{List}
 use native.Mathlib.Omega.{arith}
 use lib.ListN.{length, getD}
 use lib.Dec.{eqb}
-use Rattle.layout.specs.Numbers.{liveMark}
-use Rattle.layout.specs.Walk.{walkFrom}
+use Rattle.layout.specs.Walk.{isLive, walkFrom}
 use Rattle.walk.specs.Steps.{sizeAt, metBy, ComesTo, PastLive}
 use Rattle.walk.specs.declared.Passed.{Passed}
 use Rattle.walk.proofs.Meeting.{at-end, no-size, size-bounds, on-live, on-free, off-link}
@@ -18,7 +17,7 @@ pub not-gone : (a : List ℕ) (c met : ℕ) → c ≤ length a → met ≤ c →
 not-gone a c met h f = record { above = omega arith; within = h; few = f; same = λ want. refl }
 
 -- one live chunk further
-pub one-further : {a : List ℕ} {c met r more s : ℕ} → ComesTo a c met r more → s ≡ sizeAt a r → (s ≡ 0 → ⊥) → getD a (r + 1) 0 ≡ liveMark
+pub one-further : {a : List ℕ} {c met r more s : ℕ} → ComesTo a c met r more → s ≡ sizeAt a r → (s ≡ 0 → ⊥) → isLive (getD a (r + 1) 0) ≡ true
     → ComesTo a c met (r + s) (more + 1)
 one-further {a} {c} {met} {r} {more} {s} come e h m =
     let b = size-bounds a r s 0 e h in

@@ -5,15 +5,15 @@ use mathlib.Core.Logic.{_≢_}
 use mathlib.Core.Bool.{cond, false}
 use mathlib.Core.List.{List}
 use lib.ListN.{length, getD}
-use Rattle.layout.specs.Numbers.{liveMark, lawful}
-use Rattle.layout.specs.Walk.{Walked, broken, whole, sizeFits, walkFrom, sound, chunksOf}
+use Rattle.layout.specs.Numbers.{lawful}
+use Rattle.layout.specs.Walk.{Walked, broken, whole, isLive, headerFits, walkFrom, sound, chunksOf}
 use Rattle.walk.specs.declared.Passed.{Passed}
 use Rattle.layout.specs.declared.Reason.{Reason}
 use Rattle.layout.specs.declared.Reason.the-variants.{Length, Damaged}
 
 -- the size of the chunk that may stand at word `c`, or 0 where none can
 unfoldable pub sizeAt : List ℕ → ℕ → ℕ
-sizeAt a c = cond (sizeFits (length a) c (getD a c 0)) (getD a c 0) 0
+sizeAt a c = cond (headerFits a c) (getD a c 0) 0
 
 -- how many chunks have been met at the end of a walk, `met` of them before; 0 where it breaks
 abbrev pub metBy : ℕ → Walked → ℕ
@@ -31,7 +31,7 @@ pub record ComesTo (a : List ℕ) (c met r more : ℕ) : Type 0 where
 -- it has come past all live chunks that follow each other there
 pub record PastLive (a : List ℕ) (c met : ℕ) (passed : Passed) : Type 0 where
   pub comes : ComesTo a c met (passed .at) (passed .met)
-  pub stops : passed .at < length a → sizeAt a (passed .at) ≢ 0 → getD a (passed .at + 1) 0 ≢ liveMark
+  pub stops : passed .at < length a → sizeAt a (passed .at) ≢ 0 → isLive (getD a (passed .at + 1) 0) ≡ false
 
 -- how many chunks a sound arena has; 0 where the words are no sound arena
 unfoldable pub chunkCount : List ℕ → ℕ

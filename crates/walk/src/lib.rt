@@ -3,17 +3,29 @@ use layout::FIRST_CHUNK;
 use layout::Gate;
 use layout::LEAST_SIZE;
 use layout::LIST_WORD;
-use layout::LIVE_MARK;
 use layout::Reason;
+use layout::is_live;
 use layout::wide;
 ghost use mathlib.Core.Path.{_≡_};
 ghost use mathlib.Core.Bool.{true, false, cond};
 ghost use Prim.Native.Nat.{_≤_, _<_};
 ghost use lib.ListN.{length};
 ghost use lib.Dec.{eqb};
-ghost use Rattle.layout.specs.Walk.{walkFrom};
+ghost use Rattle.layout.specs.Walk.{secondFits, walkFrom};
 ghost use Rattle.layout.specs.Reasons.{arenaGate};
 ghost use Rattle.walk.specs.Steps.{sizeAt, metBy, PastLive, chunkCount, faultOf};
+
+// Whether a chunk of `size` words may have this second word: one that says live says that the block holds what was
+// asked for, and that this was something.
+fn second_fits(size: usize, second: u32) -> bool
+    ensures { λ r. ⌜ r ≡ secondFits size second ⌝ }
+{
+    if is_live(second) {
+        let asked = wide(layout::asked_in(second));
+        return 1 <= asked && asked <= layout::block_words(size);
+    }
+    true
+}
 
 // The size of the chunk that may stand at word `c`, or 0 where none can.
 fn size_at(a: &[u32], c: usize) -> usize
@@ -22,10 +34,11 @@ fn size_at(a: &[u32], c: usize) -> usize
 {
     let s = wide(a[c]);
     if s % 2 == 0 && LEAST_SIZE <= s && s <= a.len() - c {
-        s
-    } else {
-        0
+        if second_fits(s, a[c + 1]) {
+            return s;
+        }
     }
+    0
 }
 
 // Where the check walk has come to, and how many chunks it has met by then.
@@ -47,11 +60,12 @@ fn past_live(a: &[u32], c: usize, met: usize) -> Passed
         if s == 0 {
             return Passed { at, met: chunks };
         }
-        if a[at + 1] != LIVE_MARK {
+        if is_live(a[at + 1]) {
+            at += s;
+            chunks += 1;
+        } else {
             return Passed { at, met: chunks };
         }
-        at += s;
-        chunks += 1;
     }
     Passed { at, met: chunks }
 }
@@ -101,7 +115,7 @@ fn after_free(a: &[u32], c: usize, want: usize, met: usize) -> usize
     if s == 0 {
         return 0;
     }
-    if a[c + 1] == LIVE_MARK {
+    if is_live(a[c + 1]) {
         after_live(a, c + s, want, met + 1)
     } else {
         0

@@ -1,5 +1,5 @@
 -- To have followed a way of the rules.
-use mathlib.Core.Path.{_≡_, refl, sym, _∙_}
+use mathlib.Core.Path.{_≡_, refl, _∙_}
 use mathlib.Core.List.{List}
 use Prim.Native.Nat.{ℕ}
 use native.Mathlib.Omega.{arith}
@@ -33,20 +33,20 @@ open-followed {way} {a} {after} {block} {granted} other f = go way f
     go shut f = absurd (let e = f .answers in let z : _≡_ {A = ℕ} 0 1 = cc in omega arith)
     go (grants block′ granted′ words) f = f
 
-module _ {a : List ℕ} {link chunk need : ℕ} where
+module _ {a : List ℕ} {link chunk need w : ℕ} where
   -- the block stays
-  pub regrants-here : {block granted : ℕ} {after : List ℕ} → FollowsAt resized a link chunk need (Grants block granted) after
-      → FollowsAt regranted a link chunk need (Grants block granted) after
-  regrants-here f pre s post st = open-followed _ (f pre s post st)
+  pub regrants-here : {block granted : ℕ} {after : List ℕ} → FollowsAt resized a link chunk need w (Grants block granted) after
+      → FollowsAt regranted a link chunk need w (Grants block granted) after
+  regrants-here f pre s asked post st = open-followed _ (f pre s asked post st)
 
   -- it cannot stay, and so nothing has changed
-  pub cannot-stay : {kept : List ℕ} → LiveAt a link chunk → FollowsAt resized a link chunk need Shut kept → kept ≡ a
-  cannot-stay (pre, s, post, st) f = shut-followed (f pre s post st) .1
+  pub cannot-stay : {kept : List ℕ} → LiveAt a link chunk → FollowsAt resized a link chunk need w Shut kept → kept ≡ a
+  cannot-stay (pre, s, asked, post, st) f = shut-followed (f pre s asked post st) .1
 
   -- and it moves
-  pub regrants-elsewhere : {kept : List ℕ} {answer : Way} {after : List ℕ} → LiveAt a link chunk → FollowsAt resized a link chunk need Shut kept
-      → FollowsAt relocated kept link chunk need answer after
-      → FollowsAt regranted a link chunk need answer after
-  regrants-elsewhere {kept} {answer} {after} live f g pre s post st =
+  pub regrants-elsewhere : {kept : List ℕ} {answer : Way} {after : List ℕ} → LiveAt a link chunk → FollowsAt resized a link chunk need w Shut kept
+      → FollowsAt relocated kept link chunk need w answer after
+      → FollowsAt regranted a link chunk need w answer after
+  regrants-elsewhere {kept} {answer} {after} live f g pre s asked post st =
       let moved = rw (cannot-stay live f) at g in
-      rw (else-moves a _ need pre s post (st .is-sound) (st .stands) (shut-followed (f pre s post st) .0)) (moved pre s post st)
+      rw (else-moves a _ need w pre s asked post (st .is-sound) (st .stands) (shut-followed (f pre s asked post st) .0)) (moved pre s asked post st)

@@ -35,7 +35,7 @@ use Rattle.ways.specs.Relinks.{linkAfter}
 linkAt-append : (base c : ℕ) (ks ls : List Chunk) (d : ℕ) → d ≡ c + total ks → linkAt base c (ks ++ ls) ≡ linkAt (linkAt base c ks) d ls
 linkAt-append base c [] ls d e = ap (λ (n : ℕ). linkAt base n ls) (omega arith)
 linkAt-append base c (free s ∷ ks) ls d e = linkAt-append (c + 1) (c + s) ks ls d (omega arith)
-linkAt-append base c (live s ∷ ks) ls d e = linkAt-append base (c + s) ks ls d (omega arith)
+linkAt-append base c (live s asked ∷ ks) ls d e = linkAt-append base (c + s) ks ls d (omega arith)
 
 -- it depends on the word before them only where none of them is free
 data LinkBase (base other c : ℕ) (ks : List Chunk) : Type 0 where
@@ -45,23 +45,23 @@ data LinkBase (base other c : ℕ) (ks : List Chunk) : Type 0 where
 linkAt-least : (least base c : ℕ) (ks : List Chunk) → least ≤ base → least ≤ c → least ≤ linkAt base c ks
 linkAt-least least base c [] h l = h
 linkAt-least least base c (free s ∷ ks) h l = linkAt-least least (c + 1) (c + s) ks (omega arith) (omega arith)
-linkAt-least least base c (live s ∷ ks) h l = linkAt-least least base (c + s) ks h (omega arith)
+linkAt-least least base c (live s asked ∷ ks) h l = linkAt-least least base (c + s) ks h (omega arith)
 
 link-base : (base other c : ℕ) (ks : List Chunk) → LinkBase base other c ks
 link-base base other c [] = none-free refl refl
 link-base base other c (free s ∷ ks) = some-free refl (linkAt-least c (c + 1) (c + s) ks (omega arith) (omega arith))
-link-base base other c (live s ∷ ks) = go (link-base base other (c + s) ks)
+link-base base other c (live s asked ∷ ks) = go (link-base base other (c + s) ks)
   where
-    go : LinkBase base other (c + s) ks → LinkBase base other c (live s ∷ ks)
+    go : LinkBase base other (c + s) ks → LinkBase base other c (live s asked ∷ ks)
     go (none-free e f) = none-free e f
     go (some-free e h) = some-free e (omega arith)
 
 -- ---- what stands before a block once the free chunk `g`, below it, was cut
 
-relinked : (need g gapLink gap : ℕ) (mid : List Chunk) → need ≤ g → leastSize ≤ g
-    → linkAfter (linkAt gapLink gap (free g ∷ mid)) gapLink gap (gap + (g - taken need g)) ≡ linkAt gapLink gap (cut need g ++ mid)
+relinked : (need w g gapLink gap : ℕ) (mid : List Chunk) → need ≤ g → leastSize ≤ g
+    → linkAfter (linkAt gapLink gap (free g ∷ mid)) gapLink gap (gap + (g - taken need g)) ≡ linkAt gapLink gap (cut need w g ++ mid)
 unfolding linkAfter
-relinked need g gapLink gap mid l sized = go (remainder need g l)
+relinked need w g gapLink gap mid l sized = go (remainder need g l)
   where
     taken-whole : LinkBase (gap + 1) gapLink (gap + g) mid
         → linkAfter (linkAt gapLink gap (free g ∷ mid)) gapLink gap gap ≡ linkAt gapLink (gap + g) mid
@@ -70,7 +70,7 @@ relinked need g gapLink gap mid l sized = go (remainder need g l)
 
     go : {over : Bool} → Remainder need g over
         → linkAfter (linkAt gapLink gap (free g ∷ mid)) gapLink gap (gap + (g - cond over need g))
-        ≡ linkAt gapLink gap (cond over (free (g - need) ∷ live need ∷ []) (live g ∷ []) ++ mid)
+        ≡ linkAt gapLink gap (cond over (free (g - need) ∷ live need w ∷ []) (live g w ∷ []) ++ mid)
     go (split o) = rw (ne-eqb gap (gap + (g - need)) (omega arith)) (ap (λ (d : ℕ). linkAt (gap + 1) d mid) (omega arith))
     go (whole enough few) =
         let z : gap + (g - g) ≡ gap = omega arith in
@@ -86,25 +86,25 @@ kept-link link gapLink gap made l = rw (ne-eqb (gap + 1) link (omega arith)) (go
 
 -- ---- the block and the gap, where each stands
 
-module _ (a : List ℕ) (pre : List Chunk) (s : ℕ) (post : List Chunk) (link chunk : ℕ) (st : Placed a pre (live s) post link chunk)
+module _ (a : List ℕ) (pre : List Chunk) (s asked : ℕ) (post : List Chunk) (link chunk : ℕ) (st : Placed a pre (live s asked) post link chunk)
     (before : List Chunk) (g : ℕ) (after : List Chunk) (gapLink gap : ℕ) (sg : Placed a before (free g) after gapLink gap)
-    (need : ℕ) (n : Needed need) (fits : need ≤ g) where
+    (need w : ℕ) (n : Needed need w) (fits : need ≤ g) where
   -- which of them comes first
-  abbrev pub first : Order pre s post before g after
-  first = order pre s post before g after (sym (st .stands .same) ∙ sg .stands .same)
+  abbrev pub first : Order pre s asked post before g after
+  first = order pre s asked post before g after (sym (st .stands .same) ∙ sg .stands .same)
 
   -- the chunks before the block, and behind it, once the need was granted
   abbrev pub front : List Chunk
-  front = oldBefore need pre s post before g after first
+  front = oldBefore need w pre s asked post before g after first
 
   abbrev pub back : List Chunk
-  back = oldAfter need pre s post before g after first
+  back = oldAfter need w pre s asked post before g after first
 
-  relinks : (o : Order pre s post before g after)
-      → linkAfter link gapLink gap (gap + (g - taken need g)) ≡ linkAt listWord firstChunk (oldBefore need pre s post before g after o)
+  relinks : (o : Order pre s asked post before g after)
+      → linkAfter link gapLink gap (gap + (g - taken need g)) ≡ linkAt listWord firstChunk (oldBefore need w pre s asked post before g after o)
   relinks (gap-above mid u v) =
-      let r = reads a pre (live s) post link chunk st in
-      let t : total before ≡ total pre + (s + total mid) = ap total u ∙ total-append pre (live s ∷ mid) in
+      let r = reads a pre (live s asked) post link chunk st in
+      let t : total before ≡ total pre + (s + total mid) = ap total u ∙ total-append pre (live s asked ∷ mid) in
       kept-link link gapLink gap _ (omega (arith, placed-at sg, r .at-is, r .below)) ∙ st .link-is
   relinks (gap-below mid u v) =
       let r = reads a before (free g) after gapLink gap sg in
@@ -112,12 +112,12 @@ module _ (a : List ℕ) (pre : List Chunk) (s : ℕ) (post : List Chunk) (link c
       st .link-is ∙ ap (linkAt listWord firstChunk) u ∙ linkAt-append listWord firstChunk before (free g ∷ mid) gap (r .at-is)
       ∙ ap (λ (b : ℕ). linkAt b gap (free g ∷ mid)) (sym (sg .link-is)) in
       ap (λ (m : ℕ). linkAfter m gapLink gap (gap + (g - taken need g))) l
-      ∙ relinked need g gapLink gap mid fits (r .least)
-      ∙ ap (λ (b : ℕ). linkAt b gap (cut need g ++ mid)) (sg .link-is)
-      ∙ sym (linkAt-append listWord firstChunk before (cut need g ++ mid) gap (r .at-is))
+      ∙ relinked need w g gapLink gap mid fits (r .least)
+      ∙ ap (λ (b : ℕ). linkAt b gap (cut need w g ++ mid)) (sg .link-is)
+      ∙ sym (linkAt-append listWord firstChunk before (cut need w g ++ mid) gap (r .at-is))
 
   -- `piece` was taken, and `granted` are the words then; as many words are copied as the shorter of the two blocks has
-  module _ (piece : Piece) (granted : List ℕ) (t : Took a before g after need piece granted) (count : ℕ)
+  module _ (piece : Piece) (granted : List ℕ) (t : Took a before g after need w piece granted) (count : ℕ)
       (shorter : count ≡ min (s - headerWords) (taken need g - headerWords)) where
     room : count ≤ taken need g - headerWords
     room = omega arith
@@ -128,7 +128,7 @@ module _ (a : List ℕ) (pre : List Chunk) (s : ℕ) (post : List Chunk) (link c
     pub took-beside : Beside (length granted) (chunk + headerWords) (piece .chunk + headerWords) count
     took-beside =
         let c = cut-numbers need g fits in
-        let r = reads a pre (live s) post link chunk st in
+        let r = reads a pre (live s asked) post link chunk st in
         let q = reads a before (free g) after gapLink gap sg in
         let e : length granted ≡ length a = ap length (t .leaves) ∙ length-written _ a in
         let p = t .starts in
@@ -136,23 +136,23 @@ module _ (a : List ℕ) (pre : List Chunk) (s : ℕ) (post : List Chunk) (link c
           from-fits = omega arith;
           to-fits = omega arith;
           small = omega arith;
-          clear = ⊎-elim (λ h. inl (omega arith)) (λ h. inr (omega arith)) (old-apart need pre s post before g after first);
+          clear = ⊎-elim (λ h. inl (omega arith)) (λ h. inr (omega arith)) (old-apart need w pre s asked post before g after first);
         }
 
     -- the old block stands where it stood
     pub took-stands : (words : List ℕ) → words ≡ copied (chunk + headerWords) (piece .chunk + headerWords) count granted
-        → (named : ℕ) → named ≡ linkAfter link gapLink gap (piece .chunk) → Placed words front (live s) back named chunk
+        → (named : ℕ) → named ≡ linkAfter link gapLink gap (piece .chunk) → Placed words front (live s asked) back named chunk
     took-stands words e named q =
-        let old = old-stands need pre s post before g after (chunk + headerWords) (st .stands .number-is) fits first in
+        let old = old-stands need w pre s asked post before g after (chunk + headerWords) (st .stands .number-is) fits first in
         let c : piece .chunk ≡ gap + (g - taken need g) = omega (arith, t .starts, placed-at sg) in
         rw (e, t .leaves)
         (record {
           is-sound =
-              moved-sound a need pre s post before g after (chunk + headerWords) (piece .chunk + headerWords) count (st .is-sound) n (st .stands)
+              moved-sound a need w pre s asked post before g after (chunk + headerWords) (piece .chunk + headerWords) count (st .is-sound) n (st .stands)
               (sg .stands .same, fits) room number;
           stands = record {
             same =
-                moved-chunks a need pre s post before g after (chunk + headerWords) (piece .chunk + headerWords) count (st .is-sound) n (st .stands)
+                moved-chunks a need w pre s asked post before g after (chunk + headerWords) (piece .chunk + headerWords) count (st .is-sound) n (st .stands)
                 (sg .stands .same, fits) room number
                 ∙ old .same;
             number-is = old .number-is;
@@ -163,10 +163,10 @@ module _ (a : List ℕ) (pre : List Chunk) (s : ℕ) (post : List Chunk) (link c
     -- and is freed
     pub took-moved : firstFit need (chunksOf a) ≡ at before (free g) after
         → (words : List ℕ) → words ≡ copied (chunk + headerWords) (piece .chunk + headerWords) count granted
-        → (freed : List ℕ) → freed ≡ written (released (at front (live s) back)) words
-        → Follows (wayBy relocated (chunk + headerWords) need a pre s post) a (grantsOf piece) freed
+        → (freed : List ℕ) → freed ≡ written (released (at front (live s asked) back)) words
+        → Follows (wayBy relocated (chunk + headerWords) need w a pre (live s asked) post) a (grantsOf piece) freed
     took-moved spot words e freed f =
         let way =
-        move-grants a need pre s post before g after (chunk + headerWords) (piece .chunk + headerWords) count (st .is-sound) n (st .stands)
+        move-grants a need w pre s asked post before g after (chunk + headerWords) (piece .chunk + headerWords) count (st .is-sound) n (st .stands)
         (sg .stands .same, fits) room number in
         rw (spot, ← shorter, way, f, e, t .leaves) (record { answers = rw (t .has); leaves = refl })

@@ -21,20 +21,20 @@ use Rattle.ways.specs.Ways.{Follows, wayBy}
 use Rattle.ways.specs.Trims.{RoomFor}
 use Rattle.ways.specs.declared.Way.the-variants.{Grants, Shut}
 
-module _ (a : List ℕ) (pre : List Chunk) (s : ℕ) (post : List Chunk) (link chunk : ℕ) (st : Placed a pre (live s) post link chunk) (room : Room)
-    (has : HasRoom s post chunk room) (need : ℕ) where
-  sized : Sizes (live s ∷ post)
-  sized = let r = reads a pre (live s) post link chunk st in (r .even, r .least, r .sizes-after)
+module _ (a : List ℕ) (pre : List Chunk) (s asked : ℕ) (post : List Chunk) (link chunk : ℕ) (st : Placed a pre (live s asked) post link chunk)
+    (room : Room) (has : HasRoom s post chunk room) (need w : ℕ) where
+  sized : Sizes (live s asked ∷ post)
+  sized = let r = reads a pre (live s asked) post link chunk st in (r .even, r .least, r .sizes-after)
 
   -- its room has the need, and it keeps so many words
-  module _ (n : Needed need) (enough : need ≤ room .words) (keep : ℕ) (is : keep ≡ keptOf need s (room .words)) where
+  module _ (n : Needed need w) (enough : need ≤ room .words) (keep : ℕ) (is : keep ≡ keptOf need s (room .words)) where
     kept : KeepsOfRoom need s post keep
     kept = rw (is, has .words-are) (keeps-of-room need s post (sized .2) (omega (arith, has .words-are)))
 
-    pub room-for : RoomFor (length a) link chunk keep room
+    pub room-for : RoomFor (length a) link chunk keep w room
     room-for =
-        let b = bounds a pre s post link chunk st room has in
-        let r = reads a pre (live s) post link chunk st in
+        let b = bounds a pre s asked post link chunk st room has in
+        let r = reads a pre (live s asked) post link chunk st in
         let k = kept-numbers need s keep post kept in
         record {
           link-fits = omega (arith, r .below);
@@ -42,22 +42,22 @@ module _ (a : List ℕ) (pre : List Chunk) (s : ℕ) (post : List Chunk) (link c
           some-kept = omega (arith, n .least);
           enough = omega (arith, has .words-are);
           over-fits = λ l. omega (arith, has .words-are, k .over (omega (arith, has .words-are)));
-          small = (r .most, omega (arith, b .next-fits, r .most));
+          small = (r .most, omega (arith, b .next-fits, r .most), omega (arith, n .holds, n .most));
         }
 
-    pub stays : Follows (wayBy resized (chunk + headerWords) need a pre s post) a (Grants (chunk + headerWords) (keep - headerWords))
-        (roomWritten link chunk (trim keep (room .words)) (room .next) a)
+    pub stays : Follows (wayBy resized (chunk + headerWords) need w a pre (live s asked) post) a (Grants (chunk + headerWords) (keep - headerWords))
+        (roomWritten link chunk (trim keep w (room .words)) (room .next) a)
     stays =
-        let z = kept-sizes need s keep post n sized kept in
-        rw (in-room (chunk + headerWords) need pre s a post (sized .2), ← has .words-are, le-leb need (room .words) enough, ← is)
+        let z = kept-sizes need w s asked keep post n sized kept in
+        rw (in-room (chunk + headerWords) need w pre s asked a post (sized .2), ← has .words-are, le-leb need (room .words) enough, ← is)
         (record {
           answers = refl;
           leaves = sym
-              (become a pre s post link chunk st room has (trim keep (room .words)) (rw (has .words-are) (z .0)) (rw (has .words-are) (z .1)));
+              (become a pre s asked post link chunk st room has (trim keep w (room .words)) (rw (has .words-are) (z .0)) (rw (has .words-are) (z .1)));
         })
 
   -- its room lacks the need
-  pub too-short : room .words < need → Follows (wayBy resized (chunk + headerWords) need a pre s post) a Shut a
+  pub too-short : room .words < need → Follows (wayBy resized (chunk + headerWords) need w a pre (live s asked) post) a Shut a
   too-short l =
-      rw (in-room (chunk + headerWords) need pre s a post (sized .2), ← has .words-are, lt-leb need (room .words) l)
+      rw (in-room (chunk + headerWords) need w pre s asked a post (sized .2), ← has .words-are, lt-leb need (room .words) l)
       (record { answers = refl; leaves = refl })

@@ -32,30 +32,30 @@ pub record Follows (way : RuleWay) (a : List ℕ) (answer : Way) (after : List �
   pub leaves : after ≡ wayWords way a
 
 -- a new block of the free chunk at a spot
-abbrev pub allotting : ℕ → Spot → List ℕ → RuleWay
-allotting need spot a = allotted (grantFrom need spot) a
+abbrev pub allotting : ℕ → ℕ → Spot → List ℕ → RuleWay
+allotting need asked spot a = allotted (grantFrom need asked spot) a
 
 -- `place` is what was picked for the need, as a search answers it
 abbrev pub PickedAt : List ℕ → ℕ → Place → Spot → Type 0
 PickedAt a need place spot = Picks (chunksOf a) need spot × (place ≡ placeOf spot)
 
--- a search of a sound arena answered `place` for a need
-abbrev pub Picked : List ℕ → ℕ → Place → Type 0
-Picked a need place = (sound a ≡ true) × Needed need × ((spot : Spot) × PickedAt a need place spot)
+-- a search of a sound arena answered `place` for the need of a request for `asked` words
+abbrev pub Picked : List ℕ → ℕ → ℕ → Place → Type 0
+Picked a need asked place = (sound a ≡ true) × Needed need asked × ((spot : Spot) × PickedAt a need place spot)
 
 -- a new block was granted from what was picked
-abbrev pub FollowsFrom : List ℕ → ℕ → Place → Way → List ℕ → Type 0
-FollowsFrom a need place answer after = (spot : Spot) → PickedAt a need place spot → Follows (allotting need spot a) a answer after
+abbrev pub FollowsFrom : List ℕ → ℕ → ℕ → Place → Way → List ℕ → Type 0
+FollowsFrom a need asked place answer after = (spot : Spot) → PickedAt a need place spot → Follows (allotting need asked spot a) a answer after
 
--- the way that a rule gives the live chunk of `s` words between `pre` and `post`
-abbrev pub wayBy : Regrant → ℕ → ℕ → List ℕ → List Chunk → ℕ → List Chunk → RuleWay
-wayBy rule b need a pre s post = rule b need (at pre (live s) post) (grantFrom need (firstFit need (chunksOf a))) a
+-- the way that a rule gives the live chunk `k` between `pre` and `post`, for a request of `w` words
+abbrev pub wayBy : Regrant → ℕ → ℕ → ℕ → List ℕ → List Chunk → Chunk → List Chunk → RuleWay
+wayBy rule b need w a pre k post = rule b need w (at pre k post) (grantFrom need w (firstFit need (chunksOf a))) a
 
 -- for the live chunk that stands at `chunk`, the way that a rule gives it was followed
-abbrev pub FollowsAt : Regrant → List ℕ → ℕ → ℕ → ℕ → Way → List ℕ → Type 0
-FollowsAt rule a link chunk need answer after =
-    (pre : List Chunk) (s : ℕ) (post : List Chunk) → Placed a pre (live s) post link chunk
-    → Follows (wayBy rule (chunk + headerWords) need a pre s post) a answer after
+abbrev pub FollowsAt : Regrant → List ℕ → ℕ → ℕ → ℕ → ℕ → Way → List ℕ → Type 0
+FollowsAt rule a link chunk need w answer after =
+    (pre : List Chunk) (s asked : ℕ) (post : List Chunk) → Placed a pre (live s asked) post link chunk
+    → Follows (wayBy rule (chunk + headerWords) need w a pre (live s asked) post) a answer after
 
 abbrev pub grantsOf : Piece → Way
 grantsOf piece = Grants (piece .chunk + headerWords) (piece .words - headerWords)

@@ -30,25 +30,25 @@ pub(crate) fn grants(piece: Piece) -> Way
     )
 }
 
-// Grants a need from the free chunk that a search found.
-pub fn allot(a: &mut [u32], place: Place, need: usize) -> Way
-    requires { ⌜ Picked (now a) need place ⌝ }
-    ensures { λ r. ⌜ FollowsFrom (now (a .entry)) need place r (now (a .exit)) ⌝ }
+// Grants the need of a request for `asked` words from the free chunk that a search found.
+pub fn allot(a: &mut [u32], place: Place, need: usize, asked: u32) -> Way
+    requires { ⌜ Picked (now a) need asked place ⌝ }
+    ensures { λ r. ⌜ FollowsFrom (now (a .entry)) need asked place r (now (a .exit)) ⌝ }
 {
     let Place::At(link, chunk) = place else {
         return Way::Shut;
     };
-    grants(stores::taking::take(a, link, chunk, need))
+    grants(stores::taking::take(a, link, chunk, need, asked))
 }
 
 // The three ways in their order: the block stays where it is or, if it cannot, it moves.
-pub fn regrant_at(a: &mut [u32], link: usize, chunk: usize, need: usize) -> Way
-    requires { ⌜ LiveAt (now a) link chunk × Needed need ⌝ }
-    ensures { λ r. ⌜ FollowsAt regranted (now (a .entry)) link chunk need r (now (a .exit)) ⌝ }
+pub fn regrant_at(a: &mut [u32], link: usize, chunk: usize, need: usize, asked: u32) -> Way
+    requires { ⌜ LiveAt (now a) link chunk × Needed need asked ⌝ }
+    ensures { λ r. ⌜ FollowsAt regranted (now (a .entry)) link chunk need asked r (now (a .exit)) ⌝ }
 {
-    let way = staying::resize_at(a, link, chunk, need);
+    let way = staying::resize_at(a, link, chunk, need, asked);
     if let Way::Shut = way {
-        return moving::relocate_at(a, link, chunk, need);
+        return moving::relocate_at(a, link, chunk, need, asked);
     }
     way
 }

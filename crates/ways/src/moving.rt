@@ -28,16 +28,16 @@ fn link_after(link: usize, gap_link: usize, gap: usize, new: usize) -> usize
 }
 
 // Way 3: the block moves, and the old one is freed once as many words are copied as the shorter of the two has.
-pub fn relocate_at(a: &mut [u32], link: usize, chunk: usize, need: usize) -> Way
-    requires { ⌜ LiveAt (now a) link chunk × Needed need ⌝ }
-    ensures { λ r. ⌜ FollowsAt relocated (now (a .entry)) link chunk need r (now (a .exit)) ⌝ }
+pub fn relocate_at(a: &mut [u32], link: usize, chunk: usize, need: usize, asked: u32) -> Way
+    requires { ⌜ LiveAt (now a) link chunk × Needed need asked ⌝ }
+    ensures { λ r. ⌜ FollowsAt relocated (now (a .entry)) link chunk need asked r (now (a .exit)) ⌝ }
 {
     let place = passes::fits::first_fit(a, need);
     let Place::At(gap_link, gap) = place else {
         return Way::Shut;
     };
     let old_words = layout::block_words(wide(a[chunk]));
-    let piece = stores::taking::take(a, gap_link, gap, need);
+    let piece = stores::taking::take(a, gap_link, gap, need, asked);
     let new = piece.chunk;
     let count = layout::smaller(old_words, layout::block_words(piece.words));
     stores::copy(

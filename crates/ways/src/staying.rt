@@ -28,28 +28,29 @@ fn kept_words(need: usize, size: usize, words: usize) -> usize
     need
 }
 
-// The chunk at `chunk` keeps the first `keep` words of its room; those over, if there are any, become a free chunk.
-fn trim(a: &mut [u32], link: usize, chunk: usize, keep: usize, room: Room)
-    requires { ⌜ RoomFor (length (now a)) link chunk keep room ⌝ }
-    ensures { λ _. ⌜ now (a .exit) ≡ roomWritten link chunk (trim keep (room .words)) (room .next) (now (a .entry)) ⌝ }
+// The chunk at `chunk` keeps the first `keep` words of its room, where `asked` words are asked for; those over, if there
+// are any, become a free chunk.
+fn trim(a: &mut [u32], link: usize, chunk: usize, keep: usize, asked: u32, room: Room)
+    requires { ⌜ RoomFor (length (now a)) link chunk keep asked room ⌝ }
+    ensures { λ _. ⌜ now (a .exit) ≡ roomWritten link chunk (trim keep asked (room .words)) (room .next) (now (a .entry)) ⌝ }
 {
     let words = room.words;
     let next = room.next;
     if words <= keep {
         stores::change(a, link, next);
-        stores::put_live(a, chunk, keep);
+        stores::put_live(a, chunk, keep, asked);
         return;
     }
     let rest = chunk + keep;
     stores::change(a, link, rest);
-    stores::put_live(a, chunk, keep);
+    stores::put_live(a, chunk, keep, asked);
     stores::put(a, rest, words - keep, next);
 }
 
 // Ways 1 and 2: the block stays where it is.
-pub fn resize_at(a: &mut [u32], link: usize, chunk: usize, need: usize) -> Way
-    requires { ⌜ LiveAt (now a) link chunk × Needed need ⌝ }
-    ensures { λ r. ⌜ FollowsAt resized (now (a .entry)) link chunk need r (now (a .exit)) ⌝ }
+pub fn resize_at(a: &mut [u32], link: usize, chunk: usize, need: usize, asked: u32) -> Way
+    requires { ⌜ LiveAt (now a) link chunk × Needed need asked ⌝ }
+    ensures { λ r. ⌜ FollowsAt resized (now (a .entry)) link chunk need asked r (now (a .exit)) ⌝ }
 {
     let size = wide(a[chunk]);
     let room = stores::release::room_at(a, link, chunk);
@@ -58,6 +59,6 @@ pub fn resize_at(a: &mut [u32], link: usize, chunk: usize, need: usize) -> Way
         return Way::Shut;
     }
     let keep = kept_words(need, size, words);
-    trim(a, link, chunk, keep, room);
+    trim(a, link, chunk, keep, asked, room);
     super::grants(Piece { chunk, words: keep })
 }

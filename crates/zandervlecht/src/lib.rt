@@ -1,6 +1,6 @@
 // The calls for C: each returns its code, and stores the fields of its answer into a lent array; `zv_batch` stores both
 // into its records. The header is include/zandervlecht.h. A view needs no function: it is the words from the block's
-// number on, as many as `zv_size` answers.
+// number on, as many as `zv_size` answers granted.
 use batch::Request;
 use rules::Rover;
 ghost use mathlib.Core.Path.{_≡_};
@@ -84,9 +84,9 @@ pub extern "C" fn zv_realloc(a: &mut [u32], b: u32, n: u32, answer: &mut [u32; 2
     telling::tell_granted(arena::realloc(a, b, n), answer)
 }
 
-// The granted words of block `b`.
+// The words that were asked for when block `b` was granted last, and its granted words.
 #[no_mangle]
-pub extern "C" fn zv_size(a: &[u32], b: u32, answer: &mut [u32; 1]) -> u32
+pub extern "C" fn zv_size(a: &[u32], b: u32, answer: &mut [u32; 2]) -> u32
     ensures { λ r. ⌜ Gives (sizeOn (now (a .entry)) b) (returned r (now (answer .exit))) (now (a .entry)) ⌝ }
 {
     telling::tell_sized(arena::size(a, b), answer)

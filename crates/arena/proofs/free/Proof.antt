@@ -22,7 +22,7 @@ enum-known-located : tie.Need-enum-known-located
 enum-known-located c = search needs
 
 release-requires : tie.Need-release-requires
-release-requires c κs = let (pre, s, post, _, st, _) = here (c .before .before) .1 in (pre, s, post, st)
+release-requires c κs = let (pre, s, asked, post, _, st, _) = here (c .before .before) .1 in (pre, s, asked, post, st)
 
 enum-known-located-2 : tie.Need-enum-known-located-2
 enum-known-located-2 c = search needs
@@ -34,8 +34,8 @@ returns : tie.Need-returns
 unfolding freeOn
 returns c =
     let (opened, found) = here (c .before .before .before .before .before) in
-    let (pre, s, post, spot, st, _) = found in
-    rw (opened, spot) (record { answers = refl; leaves = c .before .before .release .ensures _ _ _ st })
+    let (pre, s, asked, post, spot, st, _) = found in
+    rw (opened, spot) (record { answers = refl; leaves = c .before .before .release .ensures _ _ _ _ st })
 
 same-length-2 : tie.Need-same-length-2
 same-length-2 c = search needs

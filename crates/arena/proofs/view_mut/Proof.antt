@@ -42,13 +42,13 @@ part-a-start c = search needs
 part-a-end : tie.Need-part-a-end
 part-a-end c =
     let d = c .before .before .before in
-    view-within _ _ _ (d .before .before .size .ensures .answers) _ _ _ (d .sized .given .1) (c .before .wide .ensures) (c .wide2 .ensures)
+    view-within _ _ _ (d .before .before .size .ensures .answers) _ _ _ _ (d .sized .given .1) (c .before .wide .ensures) (c .wide2 .ensures)
 
 returns-2 : tie.Need-returns-2
 returns-2 c =
     let w = c .before in
     let d = w .before .before .before in
-    view-words _ _ _ (d .before .before .size .ensures .answers) _ _ _ (d .sized .given .1) (w .before .wide .ensures) (w .wide2 .ensures) _
+    view-words _ _ _ (d .before .before .size .ensures .answers) _ _ _ _ (d .sized .given .1) (w .before .wide .ensures) (w .wide2 .ensures) _
 
 pub view-mut-spec : {M : Type 1} → statement M
 view-mut-spec =

@@ -3,6 +3,9 @@ use borrow.Author.Needs.{needs}
 use Rattle.stores.proofs.put_live.Statement.{statement}
 use Rattle.stores.proofs.put_live.Tie as tie
 
+live-word-requires : tie.Need-live-word-requires
+live-word-requires c κs = search needs
+
 wide-requires : tie.Need-wide-requires
 wide-requires c κs = search needs
 
@@ -15,7 +18,7 @@ same-length c = search needs
 returns : tie.Need-returns
 returns c =
     let d = c .before .before in
-    rw (← d .before .wide .ensures) (d .put .ensures)
+    rw (← d .before .before .live-word .ensures, ← d .before .wide .ensures) (d .put .ensures)
 
 pub put-live-spec : {M : Type 1} → statement M
-put-live-spec = tie.close (tie.spec wide-requires put-requires same-length returns)
+put-live-spec = tie.close (tie.spec live-word-requires wide-requires put-requires same-length returns)

@@ -1,20 +1,20 @@
--- `tell_granted` meets its contract: the two fields stand in the array.
-use borrow.Author.Needs.{needs}
+-- `tell_granted` meets its contract: the first two fields are the two.
+use mathlib.Core.Path.{_∙_}
 use Rattle.telling.proofs.Returned.{granted-returned}
+use borrow.Author.Needs.{needs}
 use Rattle.telling.proofs.tell_granted.Statement.{statement}
 use Rattle.telling.proofs.tell_granted.Tie as tie
 
 granted-numbers-requires : tie.Need-granted-numbers-requires
 granted-numbers-requires c κs = search needs
 
-array-read-block : tie.Need-array-read-block
-array-read-block c = search needs
-
-array-read-words : tie.Need-array-read-words
-array-read-words c = search needs
+tell-two-requires : tie.Need-tell-two-requires
+tell-two-requires c κs = search needs
 
 returns : tie.Need-returns
-returns c = rw (c .before .before .granted-numbers .ensures) (granted-returned (c .before .before .before .args .granted))
+returns c =
+    let d = c .before .before in
+    c .tell-two .ensures ∙ rw (d .granted-numbers .ensures) (granted-returned (d .before .args .granted))
 
 pub tell-granted-spec : {M : Type 1} → statement M
-tell-granted-spec = tie.close (tie.spec granted-numbers-requires array-read-block array-read-words returns)
+tell-granted-spec = tie.close (tie.spec granted-numbers-requires tell-two-requires returns)

@@ -4,7 +4,7 @@
 -- The measure is the words that are left: a size that is not 0 is at least 4.
 use Prim.Native.Nat.{ℕ, _+_, _<_, _≤_, _-_}
 use mathlib.Core.Path.{sym, _∙_}
-use mathlib.Core.Bool.{true, false}
+use mathlib.Core.Bool.{true}
 use native.Mathlib.Omega.{arith}
 use lib.ListN.{length}
 use borrow.Author.Needs.{needs}
@@ -23,6 +23,7 @@ use Rattle.walk.proofs.+after_free+after_live.Lts-after_live as after-l
 use Rattle.walk.proofs.past_live.Reads as past-live-reads
 use Rattle.walk.proofs.met_at_end.Reads as met-at-end-reads
 use Rattle.walk.proofs.size_at.Reads as size-at-reads
+use Rattle.layout.proofs.is_live.Reads as is-live-reads
 use Rattle.layout.proofs.wide.Reads as wide-reads
 use Rattle.walk.proofs.+after_free+after_live.{statement}
 use Rattle.walk.proofs.+after_free+after_live.Tie.{close}
@@ -51,8 +52,16 @@ after-live-below t =
 
 -- what the calls of each ask and tell
 abbrev free-calls : ℕ → after-free-lts.Claims
-free-calls t =
-    (met-at-end-reads.Asked, met-at-end-reads.Learnt, size-at-reads.Asked, size-at-reads.Learnt, after-live-below t, after-live.Post)
+free-calls t = (
+  met-at-end-reads.Asked,
+  met-at-end-reads.Learnt,
+  size-at-reads.Asked,
+  size-at-reads.Learnt,
+  is-live-reads.Asked,
+  is-live-reads.Learnt,
+  after-live-below t,
+  after-live.Post,
+)
 
 abbrev live-calls : ℕ → after-live-lts.Claims
 live-calls t = (
@@ -92,36 +101,41 @@ after-free-returns-2 t c =
     let x = c .before .before .before .before .args in
     no-size (x .a .now) (x .c) (x .want) true (x .met) (c .before .before .if1 .left) (sym (c .if2 .taken) ∙ c .before .size-at .ensures)
 
-after-free-add-if3 : (t : ℕ) → after-free-lts.Need-add-if3 (free-calls t) (after-free-at t) after-free.Post
-after-free-add-if3 t c = search needs
+after-free-add-is-live : (t : ℕ) → after-free-lts.Need-add-is-live (free-calls t) (after-free-at t) after-free.Post
+after-free-add-is-live t c = search needs
 
-after-free-mul-if3 : (t : ℕ) → after-free-lts.Need-mul-if3 (free-calls t) (after-free-at t) after-free.Post
-after-free-mul-if3 t c = search needs
+after-free-mul-is-live : (t : ℕ) → after-free-lts.Need-mul-is-live (free-calls t) (after-free-at t) after-free.Post
+after-free-mul-is-live t c = search needs
 
-after-free-shared-slice-read-if3 : (t : ℕ) → after-free-lts.Need-shared-slice-read-if3 (free-calls t) (after-free-at t) after-free.Post
-after-free-shared-slice-read-if3 t c = omega (arith, free-sized t (c .before))
+after-free-shared-slice-read-is-live : (t : ℕ) → after-free-lts.Need-shared-slice-read-is-live (free-calls t) (after-free-at t) after-free.Post
+after-free-shared-slice-read-is-live t c = omega (arith, free-sized t (c .before))
+
+after-free-is-live-requires : (t : ℕ) → after-free-lts.Need-is-live-requires (free-calls t) (after-free-at t) after-free.Post
+after-free-is-live-requires t c κs = search needs
 
 after-free-add-after-live : (t : ℕ) → after-free-lts.Need-add-after-live (free-calls t) (after-free-at t) after-free.Post
-after-free-add-after-live t c = omega (arith, free-sized t (c .before .before))
+after-free-add-after-live t c = omega (arith, free-sized t (c .before .before .before))
 
 after-free-add-after-live-2 : (t : ℕ) → after-free-lts.Need-add-after-live-2 (free-calls t) (after-free-at t) after-free.Post
-after-free-add-after-live-2 t c = omega (arith, free-sized t (c .before .before))
+after-free-add-after-live-2 t c = omega (arith, free-sized t (c .before .before .before))
 
 after-free-after-live-requires : (t : ℕ) → after-free-lts.Need-after-live-requires (free-calls t) (after-free-at t) after-free.Post
-after-free-after-live-requires t c κs = omega (arith, free-sized t (c .before .before))
+after-free-after-live-requires t c κs = omega (arith, free-sized t (c .before .before .before))
 
 after-free-returns-3 : (t : ℕ) → after-free-lts.Need-returns-3 (free-calls t) (after-free-at t) after-free.Post
 after-free-returns-3 t c =
-    let d = c .before .before .before in
+    let live = c .before in
+    let d = live .before .before .before in
     let x = d .before .before .before .before .args in
     c .after-live .ensures ∙ sym (on-live (x .a .now) (x .c) (d .before .size-at .result) (x .want) (d .before .size-at .ensures) (d .if2 .left)
-    (x .met) true (c .before .if3 .taken))
+    (x .met) true (sym (live .before .is-live .ensures) ∙ live .if3 .taken))
 
 after-free-returns-4 : (t : ℕ) → after-free-lts.Need-returns-4 (free-calls t) (after-free-at t) after-free.Post
 after-free-returns-4 t c =
-    let d = c .before .before in
+    let d = c .before .before .before in
     let x = d .before .before .before .before .args in
-    two-free (x .a .now) (x .c) (d .before .size-at .result) (x .want) (d .before .size-at .ensures) (d .if2 .left) (x .met) (c .if3 .left)
+    two-free (x .a .now) (x .c) (d .before .size-at .result) (x .want) (d .before .size-at .ensures) (d .if2 .left) (x .met)
+    (sym (c .before .is-live .ensures) ∙ c .if3 .left)
 
 -- the walk has come past all live chunks
 past : (t : ℕ) (c : after-live-lts.After-past-live (live-calls t) (after-live-at t) after-live.Post)
@@ -198,9 +212,10 @@ pub +after-free+after-live-spec : {M : Type 1} → statement M
     (after-free-returns t)
     (after-free-size-at-requires t)
     (after-free-returns-2 t)
-    (after-free-add-if3 t)
-    (after-free-mul-if3 t)
-    (after-free-shared-slice-read-if3 t)
+    (after-free-add-is-live t)
+    (after-free-mul-is-live t)
+    (after-free-shared-slice-read-is-live t)
+    (after-free-is-live-requires t)
     (after-free-add-after-live t)
     (after-free-add-after-live-2 t)
     (after-free-after-live-requires t)

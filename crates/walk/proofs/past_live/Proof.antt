@@ -30,36 +30,44 @@ size-at-requires c κs = search needs
 
 returns : tie.Need-returns Inv-loop μ-loop
 returns c =
-    record { comes = c .before .before .before .loop .inv; stops = λ h n m. n (sym (c .before .size-at .ensures) ∙ c .if1 .taken) }
+    record { comes = c .before .before .before .loop .inv; stops = λ h n. absurd (n (sym (c .before .size-at .ensures) ∙ c .if1 .taken)) }
 
-add-if2 : tie.Need-add-if2 Inv-loop μ-loop
-add-if2 c = search needs
+add-is-live : tie.Need-add-is-live Inv-loop μ-loop
+add-is-live c = search needs
 
-mul-if2 : tie.Need-mul-if2 Inv-loop μ-loop
-mul-if2 c = search needs
+mul-is-live : tie.Need-mul-is-live Inv-loop μ-loop
+mul-is-live c = search needs
 
-shared-slice-read-if2 : tie.Need-shared-slice-read-if2 Inv-loop μ-loop
-shared-slice-read-if2 c = omega (arith, sized (c .before))
+shared-slice-read-is-live : tie.Need-shared-slice-read-is-live Inv-loop μ-loop
+shared-slice-read-is-live c = omega (arith, sized (c .before))
 
-returns-2 : tie.Need-returns-2 Inv-loop μ-loop
-returns-2 c = record { comes = c .before .before .before .before .before .loop .inv; stops = λ h n m. c .if2 .taken m }
+is-live-requires : tie.Need-is-live-requires Inv-loop μ-loop
+is-live-requires c κs = search needs
 
 add-at : tie.Need-add-at Inv-loop μ-loop
-add-at c = omega (arith, sized (c .before .before))
+add-at c = omega (arith, sized (c .before .before .before))
 
 add-chunks : tie.Need-add-chunks Inv-loop μ-loop
-add-chunks c = let come = c .before .before .before .before .before .loop .inv in omega (arith, come .few, come .within)
+add-chunks c = let come = c .before .before .before .before .before .before .loop .inv in omega (arith, come .few, come .within)
 
 loop-less : tie.Need-loop-less Inv-loop μ-loop
-loop-less c = omega (arith, sized (c .before .before))
+loop-less c = omega (arith, sized (c .before .before .before))
 
 loop-again : tie.Need-loop-again Inv-loop μ-loop
 loop-again c =
-    let at-else1 = c .before .before in
-    one-further (at-else1 .before .before .before .loop .inv) (at-else1 .before .size-at .ensures) (at-else1 .if1 .left) (c .if2 .left)
+    let at-else1 = c .before .before .before in
+    one-further (at-else1 .before .before .before .loop .inv) (at-else1 .before .size-at .ensures) (at-else1 .if1 .left)
+    (sym (c .before .is-live .ensures) ∙ c .if2 .taken)
+
+returns-2 : tie.Need-returns-2 Inv-loop μ-loop
+returns-2 c =
+    record {
+      comes = c .before .before .before .before .before .before .loop .inv;
+      stops = λ h n. sym (c .before .is-live .ensures) ∙ c .if2 .left;
+    }
 
 returns-3 : tie.Need-returns-3 Inv-loop μ-loop
-returns-3 c = record { comes = c .before .loop .inv; stops = λ h n m. omega (arith, c .loop-test .left) }
+returns-3 c = record { comes = c .before .loop .inv; stops = λ h n. absurd (omega (arith, c .loop-test .left)) }
 
 pub past-live-spec : {M : Type 1} → statement M
 past-live-spec =
@@ -70,12 +78,13 @@ past-live-spec =
     loop-holds
     size-at-requires
     returns
-    add-if2
-    mul-if2
-    shared-slice-read-if2
-    returns-2
+    add-is-live
+    mul-is-live
+    shared-slice-read-is-live
+    is-live-requires
     add-at
     add-chunks
     loop-less
     loop-again
+    returns-2
     returns-3)

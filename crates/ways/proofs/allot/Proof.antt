@@ -31,7 +31,7 @@ enum-told : tie.Need-enum-told
 enum-told c = search needs
 
 returns : tie.Need-returns
-returns c spot (picks, is) = allot-shut _ _ spot (sym (c .enum-told .given .1) ∙ is)
+returns c spot (picks, is) = allot-shut _ _ _ spot (sym (c .enum-told .given .1) ∙ is)
 
 take-requires : tie.Need-take-requires
 take-requires c κs =
@@ -51,7 +51,7 @@ returns-2 : tie.Need-returns-2
 returns-2 c spot at-spot =
     let taken = c .before .before .before in
     let (pre, s, post, is, st, _) = here (taken .before .before .before) spot at-spot in
-    rw (c .grants .ensures) (allot-grants _ _ spot pre s post _ _ is (taken .take .ensures _ _ _ st))
+    rw (c .grants .ensures) (allot-grants _ _ _ spot pre s post _ _ is (taken .take .ensures _ _ _ st))
 
 pub allot-spec : {M : Type 1} → statement M
 allot-spec =

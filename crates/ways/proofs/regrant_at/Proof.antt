@@ -9,7 +9,7 @@ use Rattle.ways.proofs.regrant_at.Tie as tie
 
 -- the block cannot stay
 shut-there : (c : tie.After-enum-told) → let d = c .before .before .before .before in let x = d .before .before .before .args in
-    FollowsAt resized (x .a .now) (x .link) (x .chunk) (x .need) Shut (d .resize-at .last .0)
+    FollowsAt resized (x .a .now) (x .link) (x .chunk) (x .need) (x .asked) Shut (d .resize-at .last .0)
 shut-there c = rw (c .enum-told .given .1) at (c .before .before .before .before .resize-at .ensures)
 
 resize-at-requires : tie.Need-resize-at-requires

@@ -32,7 +32,7 @@ named c =
     (rest, rw e at g)
 
 loop-holds : tie.Need-loop-holds Inv-loop μ-loop
-loop-holds c = (_, seek-begins (c .before .args .a .now) (fits (c .before .args .need)) (λ c s. refl) (c .before .pre))
+loop-holds c = (_, seek-begins (c .before .args .a .now) (fits (c .before .args .need)) (λ c s asked. refl) (c .before .pre))
 
 mul-wide : tie.Need-mul-wide Inv-loop μ-loop
 mul-wide c = search needs

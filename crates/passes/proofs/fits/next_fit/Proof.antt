@@ -39,7 +39,7 @@ named c =
 
 loop-holds : tie.Need-loop-holds Inv-loop μ-loop
 loop-holds c = let x = c .before .args in
-    (_, seek-begins (x .a .now) (fitsFrom (x .rover) (x .need)) (λ d t. never (leb (x .rover) d)) (c .before .pre))
+    (_, seek-begins (x .a .now) (fitsFrom (x .rover) (x .need)) (λ d t asked. never (leb (x .rover) d)) (c .before .pre))
   where
     never : (b : Bool) → (b && false) ≡ false
     never true = refl

@@ -18,10 +18,10 @@ room-read c = c .before .before .before .before .before
 -- the room is read
 here : (c : tie.After-room-at)
     → let x = c .before .before .before .args in let l = c .before .before .before .pre in
-    Reads (x .a .now) (l .0) (live (l .1)) (l .2) (x .link) (x .chunk) × Bounds (x .a .now) (l .1) (l .2) (x .chunk) (c .room-at .result)
+    Reads (x .a .now) (l .0) (live (l .1) (l .2)) (l .3) (x .link) (x .chunk) × Bounds (x .a .now) (l .1) (l .3) (x .chunk) (c .room-at .result)
 here c =
     let l = c .before .before .before .pre in
-    (reads _ _ _ _ _ _ (l .3), bounds _ _ _ _ _ _ (l .3) _ (c .room-at .ensures _ _ _ (l .3)))
+    (reads _ _ _ _ _ _ (l .4), bounds _ _ _ _ _ _ _ (l .4) _ (c .room-at .ensures _ _ _ _ (l .4)))
 
 room-at-requires : tie.Need-room-at-requires
 room-at-requires c κs = search needs
@@ -45,10 +45,10 @@ same-length : tie.Need-same-length
 same-length c = search needs
 
 returns : tie.Need-returns
-returns c = λ pre s post st.
+returns c = λ pre s asked post st.
     let joins = c .before .before .before .before in
     let d = joins .before .before .before in
-    c .before .before .put .ensures ∙ releases _ pre s post _ _ st _ (d .room-at .ensures pre s post st) true
+    c .before .before .put .ensures ∙ releases _ pre s asked post _ _ st _ (d .room-at .ensures pre s asked post st) true
     (sym (joins .before .ends-at .ensures) ∙ joins .if1 .taken)
 
 change-requires : tie.Need-change-requires
@@ -61,12 +61,12 @@ same-length-2 : tie.Need-same-length-2
 same-length-2 c = search needs
 
 returns-2 : tie.Need-returns-2
-returns-2 c = λ pre s post st.
+returns-2 c = λ pre s asked post st.
     let stored = c .before .before in
     let linked = stored .before .before .before .before in
     let alone = linked .before .before in
     rw (stored .put2 .ensures, linked .change .ensures)
-    (releases _ pre s post _ _ st _ (room-read linked .room-at .ensures pre s post st) false
+    (releases _ pre s asked post _ _ st _ (room-read linked .room-at .ensures pre s asked post st) false
     (sym (alone .before .ends-at .ensures) ∙ alone .if1 .left))
 
 pub release-spec : {M : Type 1} → statement M

@@ -60,13 +60,13 @@ wide-requires-4 : tie.Need-wide-requires-4
 wide-requires-4 c κs = search needs
 
 returns : tie.Need-returns
-returns c = λ pre s post st.
+returns c = λ pre s asked post st.
     let d = c .before .before .before .before .before in
     rw (c .wide4 .ensures, c .before .before .wide3 .ensures)
-    (room-beside _ pre s post _ _ _ _ st (d .before .before .wide .ensures) (d .wide2 .ensures) (c .before .before .before .before .if1 .taken) .2)
+    (room-beside _ pre s asked post _ _ _ _ st (d .before .before .wide .ensures) (d .wide2 .ensures) (c .before .before .before .before .if1 .taken) .2)
 
 returns-2 : tie.Need-returns-2
-returns-2 c = λ pre s post st. room-alone _ pre s post _ _ _ _ st (c .before .before .before .wide .ensures) (c .before .wide2 .ensures)
+returns-2 c = λ pre s asked post st. room-alone _ pre s asked post _ _ _ _ st (c .before .before .before .wide .ensures) (c .before .wide2 .ensures)
     (c .if1 .left)
 
 pub room-at-spec : {M : Type 1} → statement M

@@ -24,26 +24,26 @@ rest-put c = c .before .before .before .before
 -- the chunk's size and the next free chunk are read
 here : (c : tie.After-wide2)
     → let x = c .before .before .before .before .before .args in
-    Gap (x .a .now) (x .link) (x .chunk) (x .need) (c .before .before .wide .result) (c .wide2 .result)
-here c = gap _ _ _ _ _ _ (c .before .before .before .before .before .pre) (c .before .before .wide .ensures) (c .wide2 .ensures)
+    Gap (x .a .now) (x .link) (x .chunk) (x .need) (x .asked) (c .before .before .wide .result) (c .wide2 .result)
+here c = gap _ _ _ _ _ _ _ (c .before .before .before .before .before .pre) (c .before .before .wide .ensures) (c .wide2 .ensures)
 
 mul-wide : tie.Need-mul-wide
-mul-wide c = let h = gap _ _ _ _ _ _ (c .before .pre) refl refl in omega arith
+mul-wide c = let h = gap _ _ _ _ _ _ _ (c .before .pre) refl refl in omega arith
 
 slice-read-wide : tie.Need-slice-read-wide
-slice-read-wide c = let h = gap _ _ _ _ _ _ (c .before .before .pre) refl refl in omega arith
+slice-read-wide c = let h = gap _ _ _ _ _ _ _ (c .before .before .pre) refl refl in omega arith
 
 wide-requires : tie.Need-wide-requires
 wide-requires c κs = search needs
 
 add-wide : tie.Need-add-wide
-add-wide c = let h = gap _ _ _ _ _ _ (c .before .before .before .pre) refl refl in omega arith
+add-wide c = let h = gap _ _ _ _ _ _ _ (c .before .before .before .pre) refl refl in omega arith
 
 mul-wide-2 : tie.Need-mul-wide-2
-mul-wide-2 c = let h = gap _ _ _ _ _ _ (c .before .before .before .pre) refl refl in omega arith
+mul-wide-2 c = let h = gap _ _ _ _ _ _ _ (c .before .before .before .pre) refl refl in omega arith
 
 slice-read-wide-2 : tie.Need-slice-read-wide-2
-slice-read-wide-2 c = let h = gap _ _ _ _ _ _ (c .before .before .before .before .pre) refl refl in omega arith
+slice-read-wide-2 c = let h = gap _ _ _ _ _ _ _ (c .before .before .before .before .pre) refl refl in omega arith
 
 wide-requires-2 : tie.Need-wide-requires-2
 wide-requires-2 c κs = search needs
@@ -66,7 +66,7 @@ returns c = λ pre s post st.
     let linked = marked .before .before .before .before in
     let d = read-whole linked in
     rw (marked .put-live .ensures, linked .change .ensures)
-    (took-whole _ pre s post _ _ _ _ _ st (d .before .before .wide .ensures) (d .wide2 .ensures) (linked .before .before .if1 .taken))
+    (took-whole _ pre s post _ _ _ _ _ _ st (d .before .before .wide .ensures) (d .wide2 .ensures) (linked .before .before .if1 .taken))
 
 put-requires : tie.Need-put-requires
 put-requires c κs = let h = here (c .before .before) in omega arith
@@ -77,8 +77,8 @@ add-put-live c = let h = here (read-cut (c .before .before .before)) in omega ar
 put-live-requires-2 : tie.Need-put-live-requires-2
 put-live-requires-2 c κs = let h = here (read-cut (c .before .before .before)) in omega arith
 
-add-t11 : tie.Need-add-t11
-add-t11 c = let h = here (read-cut (rest-put (c .before .before))) in omega arith
+add-t12 : tie.Need-add-t12
+add-t12 c = let h = here (read-cut (rest-put (c .before .before))) in omega arith
 
 same-length-2 : tie.Need-same-length-2
 same-length-2 c = search needs
@@ -89,7 +89,7 @@ returns-2 c = λ pre s post st.
     let rested = rest-put marked in
     let d = read-cut rested in
     rw (marked .put-live2 .ensures, rested .put .ensures)
-    (took-split _ pre s post _ _ _ _ _ st (d .before .before .wide .ensures) (d .wide2 .ensures) (d .before .before .before .before .before .pre .5)
+    (took-split _ pre s post _ _ _ _ _ _ st (d .before .before .wide .ensures) (d .wide2 .ensures) (d .before .before .before .before .before .pre .5)
     (here d .enough) (rested .before .before .if1 .left))
 
 pub take-spec : {M : Type 1} → statement M
@@ -111,6 +111,6 @@ take-spec =
     put-requires
     add-put-live
     put-live-requires-2
-    add-t11
+    add-t12
     same-length-2
     returns-2)

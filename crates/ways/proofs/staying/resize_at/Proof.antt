@@ -21,14 +21,14 @@ abbrev began : tie.After-room-at → tie.Start
 began c = c .before .before .before .before .before
 
 -- the chunk that stands there, in numbers
-stood : (c : tie.Start) → let p = c .pre .0 in Reads (c .args .a .now) (p .0) (live (p .1)) (p .2) (c .args .link) (c .args .chunk)
-stood c = reads _ _ _ _ _ _ (c .pre .0 .3)
+stood : (c : tie.Start) → let p = c .pre .0 in Reads (c .args .a .now) (p .0) (live (p .1) (p .2)) (p .3) (c .args .link) (c .args .chunk)
+stood c = reads _ _ _ _ _ _ (c .pre .0 .4)
 
 -- the size that was read is the chunk's
 sized : (c : tie.After-room-at) → let d = began c in
-    (pre : List Chunk) (s : ℕ) (post : List Chunk) → Placed (d .args .a .now) pre (live s) post (d .args .link) (d .args .chunk)
+    (pre : List Chunk) (s asked : ℕ) (post : List Chunk) → Placed (d .args .a .now) pre (live s asked) post (d .args .link) (d .args .chunk)
     → c .before .before .wide .result ≡ s
-sized c pre s post st = c .before .before .wide .ensures ∙ reads _ _ _ _ _ _ st .size-is
+sized c pre s asked post st = c .before .before .wide .ensures ∙ reads _ _ _ _ _ _ st .size-is
 
 -- where the code goes on, the room has the need
 enough : (c : tie.Else1) → began (c .before) .args .need ≤ c .before .room-at .result .words
@@ -36,19 +36,19 @@ enough c = c .if1 .left
 
 -- so many words are kept of the chunk's room
 kept : (c : tie.After-kept-words) → let d = began (c .before .before) in
-    (pre : List Chunk) (s : ℕ) (post : List Chunk) → Placed (d .args .a .now) pre (live s) post (d .args .link) (d .args .chunk)
+    (pre : List Chunk) (s asked : ℕ) (post : List Chunk) → Placed (d .args .a .now) pre (live s asked) post (d .args .link) (d .args .chunk)
     → c .kept-words .result ≡ keptOf (d .args .need) s (c .before .before .room-at .result .words)
-kept c pre s post st = c .kept-words .ensures
+kept c pre s asked post st = c .kept-words .ensures
     ∙ ap (λ (size : ℕ). keptOf (began (c .before .before) .args .need) size (c .before .before .room-at .result .words))
-    (sized (c .before .before) pre s post st)
+    (sized (c .before .before) pre s asked post st)
 
 -- and they fit it
 fits : (c : tie.After-kept-words) → let x = began (c .before .before) .args in
-    RoomFor (length (x .a .now)) (x .link) (x .chunk) (c .kept-words .result) (c .before .before .room-at .result)
+    RoomFor (length (x .a .now)) (x .link) (x .chunk) (c .kept-words .result) (x .asked) (c .before .before .room-at .result)
 fits c =
     let d = c .before .before in
     let p = began d .pre in
-    room-for _ _ _ _ _ _ (p .0 .3) _ (d .room-at .ensures _ _ _ (p .0 .3)) _ (p .1) (enough (c .before)) _ (kept c _ _ _ (p .0 .3))
+    room-for _ _ _ _ _ _ _ (p .0 .4) _ (d .room-at .ensures _ _ _ _ (p .0 .4)) _ _ (p .1) (enough (c .before)) _ (kept c _ _ _ _ (p .0 .4))
 
 mul-wide : tie.Need-mul-wide
 mul-wide c = let r = stood (c .before) in omega arith
@@ -66,9 +66,9 @@ same-length : tie.Need-same-length
 same-length c = search needs
 
 returns : tie.Need-returns
-returns c = λ pre s post st.
+returns c = λ pre s asked post st.
     let d = c .before in
-    too-short _ pre s post _ _ st (d .room-at .result) (d .room-at .ensures pre s post st) _ (c .if1 .taken)
+    too-short _ pre s asked post _ _ st (d .room-at .result) (d .room-at .ensures pre s asked post st) _ _ (c .if1 .taken)
 
 kept-words-requires : tie.Need-kept-words-requires
 kept-words-requires c κs = enough c
@@ -83,12 +83,12 @@ same-length-2 : tie.Need-same-length-2
 same-length-2 c = search needs
 
 returns-2 : tie.Need-returns-2
-returns-2 c = λ pre s post st.
+returns-2 c = λ pre s asked post st.
     let d = c .before .before .before .before .before in
     let e = d .before .before in
     follows-as (c .grants .ensures) (c .before .before .before .trim .ensures)
-    (stays _ pre s post _ _ st (e .room-at .result) (e .room-at .ensures pre s post st) _ (began e .pre .1)
-    (enough (d .before)) _ (kept d pre s post st))
+    (stays _ pre s asked post _ _ st (e .room-at .result) (e .room-at .ensures pre s asked post st) _ _ (began e .pre .1)
+    (enough (d .before)) _ (kept d pre s asked post st))
 
 pub resize-at-spec : {M : Type 1} → statement M
 resize-at-spec =
