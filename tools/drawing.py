@@ -1,6 +1,6 @@
 """What the tools that draw share: the chunks that an arena's words have, and the parts of an SVG picture."""
 
-LIVE_MARK = 4294967295
+LIVE_MARK = 2147483648
 CONTROL_WORDS = HEADER_WORDS = 2
 
 DONE = 0
@@ -22,8 +22,18 @@ class NotDrawn(Exception):
     """Why something cannot be drawn."""
 
 
+def asked_in(start, size, second):
+    """The words that were asked for, by a chunk's second word; 0 where the chunk is free."""
+    asked = second - LIVE_MARK
+    if asked < 0:
+        return 0
+    if not 1 <= asked <= size - HEADER_WORDS:
+        raise NotDrawn(f"the chunk at word {start} cannot have been granted for {words_of(asked)}")
+    return asked
+
+
 def chunks_in(words):
-    """The chunks of an arena: where each begins, its size, and whether it is live."""
+    """The chunks of an arena: where each begins, its size, and the words that were asked for, 0 where it is free."""
     if len(words) <= CONTROL_WORDS or words[0] != len(words):
         raise NotDrawn("its first word is not the number of its words")
     chunks = []
@@ -32,7 +42,7 @@ def chunks_in(words):
         size = words[start]
         if size < 2 * HEADER_WORDS or start + size > len(words):
             raise NotDrawn(f"there is no chunk at word {start}, where the one before it ends")
-        chunks.append((start, size, words[start + 1] == LIVE_MARK))
+        chunks.append((start, size, asked_in(start, size, words[start + 1])))
         start += size
     return chunks
 

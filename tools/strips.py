@@ -97,9 +97,9 @@ class Drawing:
     def strip(self, strip, y):
         """An arena."""
         yield from self.run(0, CONTROL_WORDS, y, "url(#stripes)")
-        for start, size, live in chunks_in(strip.words):
+        for start, size, asked in chunks_in(strip.words):
             name = strip.blocks.get(start + HEADER_WORDS)
-            yield from self.live(start, size, name, y) if live else self.gap(start, size, y)
+            yield from self.live(start, size, name, y) if asked else self.gap(start, size, y)
         if strip.arrow:
             yield from self.arrow(*strip.arrow, y)
         yield text(LEFT - 8, y + HEIGHT / 2 + 4, strip.name, "end", LABEL)

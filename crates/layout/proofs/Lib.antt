@@ -8,6 +8,7 @@ pub mod Bounds
 pub mod Chain
 pub mod Replace
 pub mod Round
+pub mod Older
 pub mod Payload
 pub mod Counts
 pub mod Reasons

@@ -49,14 +49,14 @@ live-true s second e f =
     (omega arith, record { some = leb-true _ _ (p .0); held = leb-true _ _ (p .1) })
 
 -- the facts behind what the walk meets
-data Told (a : List ℕ) (c want : ℕ) (joined : Bool) : Met → Type 0 where
+pub data Told (a : List ℕ) (c want : ℕ) (joined : Bool) : Met → Type 0 where
   at-end : c ≡ length a → want ≡ 0 → Told a c want joined end
   at-live : Fits (length a) c (getD a c 0) → Live (getD a c 0) (getD a (c + 1) 0)
       → Told a c want joined (chunk (live (getD a c 0) (askedIn (getD a (c + 1) 0))) want false)
   at-free : Fits (length a) c (getD a c 0) → joined ≡ false → want ≡ c → Told a c want joined (chunk (free (getD a c 0)) (getD a (c + 1) 0) true)
   at-none : Told a c want joined nothing
 
-told : (a : List ℕ) (c want : ℕ) (joined : Bool) → Told a c want joined (meet a c want joined)
+pub told : (a : List ℕ) (c want : ℕ) (joined : Bool) → Told a c want joined (meet a c want joined)
 unfolding meet
 told a c want joined =
     go (eqb c (length a)) (eqb want 0) (headerFits a c) (isLive (getD a (c + 1) 0)) (eqb want c) joined refl refl refl refl refl refl

@@ -1,7 +1,7 @@
 -- Document 01's four useless versions, and others of their kind, as libraries: each with the demands that it fails.
 use Prim.Native.Nat.{ℕ, _+_, _-_, _≤_}
 use mathlib.Core.Path.{_≡_, refl, _∙_, ap}
-use mathlib.Core.Logic.{_≢_, inl, ⊎-elim}
+use mathlib.Core.Logic.{_≢_, inl, inr, ⊎-elim}
 use mathlib.Core.Bool.{Bool, true, false, cond}
 use mathlib.Core.List.{List, [], _∷_}
 use native.Mathlib.Nat.{add-zero}
@@ -31,9 +31,9 @@ use Rattle.ledger.specs.Events.{call, store}
 use Rattle.ledger.specs.Gaps.{hole, RoomShorter}
 use Rattle.ledger.specs.Ledger.{Entry, enter, strike, told, entryFor, Done, Held, begins, ends}
 use Rattle.ledger.specs.Runs.{State, Allowed, after, Run, begun, arrived, next}
-use Rattle.ledger.specs.Holders.{just, pictured, still}
+use Rattle.ledger.specs.Holders.{just, pictured, still, just-asked}
 use Rattle.ledger.specs.Demands.{Starts, Receives, Lengths, Apart, Inside, Keeps, Lasts, Sums, RoomForAlloc, RoomForResize, RoomForRelocate}
-use Rattle.ledger.specs.Demands.{RoomForRealloc, ShrinksToNeed, NoMoreCrumbs, NeedOrGap, NeedOrRoom, Known}
+use Rattle.ledger.specs.Demands.{RoomForRealloc, ShrinksToNeed, NoMoreCrumbs, NeedOrGap, NeedOrRoom, SizeTellsAsked, Known}
 use Rattle.ledger.specs.Promises.{FreeChunksAreHoles, PromiseByLedger}
 use Rattle.ledger.proofs.Gaps.{a-hole}
 
@@ -507,6 +507,41 @@ loses-two-words shrinks =
     let granted : _≡_ {A = ℕ} 6 4 =
     ap (λ (answer : Answer). told answer .granted)
     (shrinks 16 _ held [] [] (record { block = 4; granted = 6; asked = 4 }) refl 4 (omega arith) (omega arith) (omega arith)) in
+    omega arith
+
+-- ---- one that tells the granted words twice, and one that keeps an older request's number
+
+-- what size tells first is what it tells next
+abbrev pub TellsGrantedTwice : Library → Type 0
+TellsGrantedTwice library = (b : ℕ) (a : List ℕ) → let told-of = library (size b) a .answer .values in getD told-of 0 0 ≡ grantedField told-of
+
+-- if it keeps the room rule and knows its arena, it does not tell what was asked for: for 1 word, 2 or more are granted
+pub tells-granted-twice : (library : Library) → TellsGrantedTwice library → RoomForAlloc library (alloc first-fit) → Known library
+    → SizeTellsAsked library → ⊥
+tells-granted-twice library twice room known tells =
+    let a = library start (replicate 6 0) .words in
+    let o = has-once first-fit library room (replicate 6 0) 1 refl (omega arith) in
+    let e : Entry = entryFor 1 (library (alloc first-fit 1) a .answer) in
+    let words = library (alloc first-fit 1) a .words in
+    let last = just-asked (o .started) (call (alloc first-fit 1)) tt 1 (inl (o .done, refl)) in
+    let (granted, tells-one) = tells 6 _ (e .block) 1 last in
+    let asked : getD (library (size (e .block)) words .answer .values) 0 0 ≡ 1 = ap (λ (x : Answer). getD (x .values) 0 0) tells-one in
+    let has : grantedField (library (size (e .block)) words .answer .values) ≡ e .granted =
+    ap (λ (x : Answer). grantedField (x .values)) (known 6 _ (o .once) .size-listed e (inl refl)) in
+    omega (arith, asked, has, twice (e .block) words, known 6 _ (o .started) .alloc-grants first-fit 1 (o .done))
+
+-- a resize answers as ours does, and writes nothing
+abbrev pub keepsOldNumber : Library
+keepsOldNumber = withResize (λ b w a. record { answer = ours (resize b w) a .answer; words = a })
+
+-- it does not tell what was asked for last: of 6 words, block 4 was asked for with 2 words, and is resized to 1
+pub keeps-old-number : SizeTellsAsked keepsOldNumber → ⊥
+unfolding startOn allocBy regrantBy sizeOn arenaGate requestGate sound chunksOf walked walkFrom walk meet lowest joined written write header enter
+    strike
+keeps-old-number tells =
+    let held : Run keepsOldNumber 6 _ = next (begun (replicate 6 0) refl refl) (call (alloc first-fit 2)) tt in
+    let (granted, tells-one) = tells 6 _ 4 1 (just-asked held (call (resize 4 1)) tt 1 (inr (4, (refl, refl)))) in
+    let two : _≡_ {A = ℕ} 2 1 = ap (λ (x : Answer). getD (x .values) 0 0) tells-one in
     omega arith
 
 -- ---- one that never relocates, and one that leaves the block where it is

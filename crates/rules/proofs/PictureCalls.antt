@@ -1,5 +1,5 @@
 -- What comes of writing a picture and of reading one, case by case; and that one undoes the other.
-use Prim.Native.Nat.{ℕ, _≤_}
+use Prim.Native.Nat.{ℕ, _+_, _≤_}
 use mathlib.Core.Path.{_≡_, refl, sym, ap, _∙_}
 use mathlib.Core.Logic.{_≢_}
 use mathlib.Core.Bool.{Bool, true, false, cond}
@@ -9,14 +9,17 @@ use lib.ListN.{length, take, drop, length-append, length-drop, length-map}
 use lib.Seq.{take-append-seam}
 use lib.Dec.{leb, eqb}
 use borrow.Author.Tests.{leb-true, leb-false, le-leb, lt-leb, eqb-true, eqb-false, eq-eqb, ne-eqb}
-use Rattle.layout.specs.Numbers.{wordValues}
+use Rattle.layout.specs.Numbers.{firstChunk, wordValues, lawful}
 use Rattle.layout.specs.Bounds.{AllBelow}
+use Rattle.layout.specs.Chunks.{Chunk, total}
 use Rattle.layout.specs.Walk.{sound}
 use Rattle.layout.specs.Reasons.{number, arenaGate}
 use Rattle.layout.specs.declared.Gate.{Gate}
 use Rattle.layout.specs.declared.Reason.{Reason}
 use Rattle.layout.specs.declared.Reason.the-variants.{Length, Damaged, Frame, TextRoom}
+use Rattle.layout.proofs.Holds.{Sizes}
 use Rattle.layout.proofs.Round.{sound-chunks}
+use Rattle.layout.proofs.Older.{OlderHeads, SomeLive, older-damaged}
 use Rattle.digits.specs.Digits.{upper}
 use Rattle.rules.specs.Answers.{Answer, success, done, refused, settle, pass}
 use Rattle.rules.specs.Pictures.{pictureOf, Says, Said, good, said}
@@ -145,6 +148,11 @@ module _ (text a : List ℕ) where
   -- a text that says a sound arena of this length is read, and its words are the arena
   pub reads-sound : (ws : List ℕ) → Says text ws → length ws ≡ length a → sound ws ≡ true → readOn text a ≡ record { answer = success []; words = ws }
   reads-sound ws s e d = rw (said-reads ws s, eq-eqb _ _ e, sound-gate ws d)
+
+  -- a text that says an arena as earlier boards had it, with a live chunk in it, is refused as damaged
+  pub older-refused : (ws : List ℕ) (ks : List Chunk) → Says text ws → length ws ≡ length a → lawful (length ws) ≡ true
+      → OlderHeads ws firstChunk ks → Sizes ks → firstChunk + total ks ≡ length ws → SomeLive ks → readOn text a .answer .code ≡ number Damaged
+  older-refused ws ks s e l heads sizes fills some = read-gives Damaged (unsound ws s e l (older-damaged ws ks heads sizes fills some))
 
 -- ---- one undoes the other
 
