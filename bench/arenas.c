@@ -38,10 +38,11 @@ static struct site begin_site(uint32_t *arena, size_t words)
     return site;
 }
 
+/* Lays a live chunk, all of whose block was asked for. */
 static void lay_live(struct site *site, size_t size)
 {
     site->arena[site->chunk] = (uint32_t)size;
-    site->arena[site->chunk + 1] = LIVE_MARK;
+    site->arena[site->chunk + 1] = LIVE_MARK + (uint32_t)size - HEADER;
     site->chunk += size;
 }
 
@@ -131,7 +132,7 @@ static void fill_blocks(uint32_t *arena, size_t words, uint32_t first)
     size_t chunk;
 
     for (chunk = FIRST_CHUNK; chunk < words; chunk += arena[chunk]) {
-        if (arena[chunk + 1] == LIVE_MARK)
+        if (arena[chunk + 1] >= LIVE_MARK)
             fill_with_noise(arena + chunk + HEADER, arena[chunk] - HEADER, first + (uint32_t)chunk);
     }
 }

@@ -4,7 +4,8 @@
 
 #include "traces.h"
 
-#define LIVE_MARK 4294967295u
+/* A live chunk's second word is this number and the words that were asked for; that of a free chunk is below it. */
+#define LIVE_MARK 2147483648u
 
 enum { FIRST_CHUNK = 2, HEADER = 2, LEAST_SPLIT = 8, MOST_CHUNKS = 4095 };
 

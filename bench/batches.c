@@ -42,7 +42,7 @@ static void give_up(const char *what, size_t words, size_t batch)
     exit(1);
 }
 
-/* Makes one request by a call of its own, and fills in its answer. */
+/* Makes one request by a call of its own, and fills in its answer: for a size the words asked for stand in `block`. */
 static void fill_in(const struct library *library, uint32_t *arena, size_t words, struct zv_request *request)
 {
     uint32_t answer[2] = {0, 0};
@@ -64,7 +64,7 @@ static void fill_in(const struct library *library, uint32_t *arena, size_t words
         request->code = library->relocate(arena, words, request->b, request->n, answer);
         break;
     case ZV_SIZE:
-        request->code = library->size(arena, words, request->b, &answer[ZV_GRANTED]);
+        request->code = library->size(arena, words, request->b, answer);
         break;
     default:
         request->code = ZV_FRAME;

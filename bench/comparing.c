@@ -216,13 +216,13 @@ static uint32_t both_realloc(uint32_t *arena, size_t words, uint32_t b, uint32_t
     return agreed("realloc", arena, words, &mine, &theirs);
 }
 
-static uint32_t both_size(const uint32_t *arena, size_t words, uint32_t b, uint32_t answer[1])
+static uint32_t both_size(const uint32_t *arena, size_t words, uint32_t b, uint32_t answer[2])
 {
     struct outcome mine = nothing_told, theirs = nothing_told;
 
     mine.code = zv_size(arena, words, b, mine.fields);
     theirs.code = plain_size(copy_of(arena), words, b, theirs.fields);
-    memcpy(answer, mine.fields, sizeof *answer);
+    memcpy(answer, mine.fields, 2 * sizeof *answer);
     return agreed("size", arena, words, &mine, &theirs);
 }
 

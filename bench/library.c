@@ -43,7 +43,7 @@ static uint32_t idle_grant(uint32_t *arena, size_t words, uint32_t b, uint32_t n
     return ZV_DONE;
 }
 
-static uint32_t idle_size(const uint32_t *arena, size_t words, uint32_t b, uint32_t answer[1])
+static uint32_t idle_size(const uint32_t *arena, size_t words, uint32_t b, uint32_t answer[2])
 {
     (void)arena, (void)words, (void)b, (void)answer;
     return ZV_DONE;

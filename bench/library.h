@@ -13,7 +13,7 @@ struct library {
     uint32_t (*resize)(uint32_t *arena, size_t words, uint32_t b, uint32_t n, uint32_t answer[2]);
     uint32_t (*relocate)(uint32_t *arena, size_t words, uint32_t b, uint32_t n, uint32_t answer[2]);
     uint32_t (*realloc)(uint32_t *arena, size_t words, uint32_t b, uint32_t n, uint32_t answer[2]);
-    uint32_t (*size)(const uint32_t *arena, size_t words, uint32_t b, uint32_t answer[1]);
+    uint32_t (*size)(const uint32_t *arena, size_t words, uint32_t b, uint32_t answer[2]);
     uint32_t (*report)(const uint32_t *arena, size_t words, uint32_t answer[4]);
     uint32_t (*write)(const uint32_t *arena, size_t words, uint8_t *text, size_t bytes, uint32_t answer[1]);
     uint32_t (*read)(const uint8_t *text, size_t bytes, uint32_t *arena, size_t words);

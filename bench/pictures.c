@@ -140,26 +140,34 @@ static void compare_rooms(const uint32_t *arena)
         note(both.write(arena, i, text, 0, answer));
 }
 
-/* Arenas in which one word is another, written and checked; and every number of bytes to check. */
-static void compare_damage(uint32_t *arena)
+/* An arena in which one word is another, written and checked. */
+static void compare_changed_word(uint32_t *arena, size_t at, uint32_t other)
 {
     uint8_t text[TRIED_BYTES] = {0};
+    uint32_t kept = arena[at];
     uint32_t answer[1];
+
+    arena[at] = other;
+    begin_comparing(arena, TRIED_WORDS, "a damaged arena");
+    begin_album(&album, arena, TRIED_WORDS, 1);
+    note(both.write(arena, TRIED_WORDS, text, sizeof text, answer));
+    note(both.write(arena, TRIED_WORDS, text, sizeof text - 1, answer));
+    note(both.check(album.spelled, 4 * TRIED_WORDS));
+    arena[at] = kept;
+}
+
+/* Each word as another, and as a live chunk's second with any number asked for; and every number of bytes to check. */
+static void compare_damage(uint32_t *arena)
+{
     size_t at, i;
 
     for (at = 0; at < TRIED_WORDS; at++) {
-        const uint32_t others[] = {0, 2, 4, TRIED_WORDS, LIVE_MARK, arena[at] + 2, arena[at] - 2};
-        uint32_t kept = arena[at];
+        const uint32_t others[] = {0, 2, 4, TRIED_WORDS, LIVE_MARK - 1, UINT32_MAX, arena[at] + 2, arena[at] - 2};
 
-        for (i = 0; i < sizeof others / sizeof *others; i++) {
-            arena[at] = others[i];
-            begin_comparing(arena, TRIED_WORDS, "a damaged arena");
-            begin_album(&album, arena, TRIED_WORDS, 1);
-            note(both.write(arena, TRIED_WORDS, text, sizeof text, answer));
-            note(both.write(arena, TRIED_WORDS, text, sizeof text - 1, answer));
-            note(both.check(album.spelled, 4 * TRIED_WORDS));
-        }
-        arena[at] = kept;
+        for (i = 0; i < sizeof others / sizeof *others; i++)
+            compare_changed_word(arena, at, others[i]);
+        for (i = 0; i <= TRIED_WORDS; i++)
+            compare_changed_word(arena, at, LIVE_MARK + (uint32_t)i);
     }
     begin_comparing(arena, TRIED_WORDS, "bytes of any number");
     begin_album(&album, arena, TRIED_WORDS, 1);

@@ -1,7 +1,7 @@
 /*
  * The allocator in plain C, written for speed: one loop for the check walk, then one for the search.
  *
- * The rules are those of docs/BOARD.md. A chunk is named by the word where it starts. A link is the word that names a
+ * The rules are those of docs/RULES.md. A chunk is named by the word where it starts. A link is the word that names a
  * free chunk: the list's first word, or the second word of the free chunk before.
  */
 #include "plain.h"
@@ -45,12 +45,12 @@ static inline uint32_t find(const uint32_t *arena, size_t words, uint32_t b, str
     if (b < FIRST_CHUNK + HEADER || b >= words)
         return ZV_NOT_A_BLOCK;
     while (chunk < wanted) {
-        link = arena[chunk + 1] == LIVE_MARK ? link : chunk + 1;
+        link = arena[chunk + 1] >= LIVE_MARK ? link : chunk + 1;
         chunk += arena[chunk];
     }
     place->link = link;
     place->chunk = chunk;
-    return chunk == wanted && arena[chunk + 1] == LIVE_MARK ? ZV_DONE : ZV_NOT_A_BLOCK;
+    return chunk == wanted && arena[chunk + 1] >= LIVE_MARK ? ZV_DONE : ZV_NOT_A_BLOCK;
 }
 
 /* The checks of a call on a block that is granted anew, in the order of their reasons; finds the block's chunk. */
@@ -128,19 +128,20 @@ static uint32_t refuse(uint32_t answer[2], uint32_t code)
 }
 
 /* Makes the last words of a gap a live chunk, or all of them where too few would be over; answers where it starts. */
-static size_t take(uint32_t *arena, struct place gap, size_t need)
+static size_t take(uint32_t *arena, struct place gap, uint32_t n)
 {
+    size_t need = need_of(n);
     size_t rest = arena[gap.chunk] - need;
     size_t chunk = gap.chunk + rest;
 
     if (rest < LEAST_SPLIT) {
         arena[gap.link] = arena[gap.chunk + 1];
-        arena[gap.chunk + 1] = LIVE_MARK;
+        arena[gap.chunk + 1] = LIVE_MARK + n;
         return gap.chunk;
     }
     arena[gap.chunk] = (uint32_t)rest;
     arena[chunk] = (uint32_t)need;
-    arena[chunk + 1] = LIVE_MARK;
+    arena[chunk + 1] = LIVE_MARK + n;
     return chunk;
 }
 
@@ -197,10 +198,11 @@ static inline void trim(uint32_t *arena, struct place place, size_t keep, struct
 }
 
 /* Grants a block anew where it stands, or says ZV_WOULD_MOVE. */
-static inline uint32_t resize_at(uint32_t *arena, struct place place, size_t need, uint32_t answer[2])
+static inline uint32_t resize_at(uint32_t *arena, struct place place, uint32_t n, uint32_t answer[2])
 {
     struct room room = room_of(arena, place);
     size_t size = arena[place.chunk];
+    size_t need = need_of(n);
     size_t keep;
 
     if (room.size < need)
@@ -208,19 +210,20 @@ static inline uint32_t resize_at(uint32_t *arena, struct place place, size_t nee
     keep = kept_of(need, size, room.size);
     if (keep != size)
         trim(arena, place, keep, room);
+    arena[place.chunk + 1] = LIVE_MARK + n;
     return grant(answer, place.chunk, keep);
 }
 
 /* Grants a block anew elsewhere, with as many of its words as both have, or says ZV_NO_ROOM. */
-static inline uint32_t relocate_at(uint32_t *arena, struct place place, size_t need, uint32_t answer[2])
+static inline uint32_t relocate_at(uint32_t *arena, struct place place, uint32_t n, uint32_t answer[2])
 {
     struct place gap;
     size_t old_size = arena[place.chunk];
     size_t chunk, size;
 
-    if (first_fit(arena, need, &gap) != ZV_DONE)
+    if (first_fit(arena, need_of(n), &gap) != ZV_DONE)
         return refuse(answer, ZV_NO_ROOM);
-    chunk = take(arena, gap, need);
+    chunk = take(arena, gap, n);
     size = arena[chunk];
     memcpy(arena + chunk + HEADER, arena + place.chunk + HEADER,
            ((size < old_size ? size : old_size) - HEADER) * sizeof *arena);
@@ -256,7 +259,7 @@ static inline uint32_t settle(uint32_t *arena, uint32_t n, uint32_t code, struct
 
     if (code != ZV_DONE)
         return refuse(answer, code);
-    chunk = take(arena, gap, need_of(n));
+    chunk = take(arena, gap, n);
     return grant(answer, chunk, arena[chunk]);
 }
 
@@ -311,7 +314,7 @@ uint32_t plain_resize(uint32_t *arena, size_t words, uint32_t b, uint32_t n, uin
 
     if (code != ZV_DONE)
         return refuse(answer, code);
-    return resize_at(arena, place, need_of(n), answer);
+    return resize_at(arena, place, n, answer);
 }
 
 uint32_t plain_relocate(uint32_t *arena, size_t words, uint32_t b, uint32_t n, uint32_t answer[2])
@@ -321,7 +324,7 @@ uint32_t plain_relocate(uint32_t *arena, size_t words, uint32_t b, uint32_t n, u
 
     if (code != ZV_DONE)
         return refuse(answer, code);
-    return relocate_at(arena, place, need_of(n), answer);
+    return relocate_at(arena, place, n, answer);
 }
 
 uint32_t plain_realloc(uint32_t *arena, size_t words, uint32_t b, uint32_t n, uint32_t answer[2])
@@ -331,19 +334,22 @@ uint32_t plain_realloc(uint32_t *arena, size_t words, uint32_t b, uint32_t n, ui
 
     if (code != ZV_DONE)
         return refuse(answer, code);
-    code = resize_at(arena, place, need_of(n), answer);
-    return code == ZV_WOULD_MOVE ? relocate_at(arena, place, need_of(n), answer) : code;
+    code = resize_at(arena, place, n, answer);
+    return code == ZV_WOULD_MOVE ? relocate_at(arena, place, n, answer) : code;
 }
 
-uint32_t plain_size(const uint32_t *arena, size_t words, uint32_t b, uint32_t answer[1])
+uint32_t plain_size(const uint32_t *arena, size_t words, uint32_t b, uint32_t answer[2])
 {
     uint32_t code = check_arena(arena, words);
     struct place place;
 
     if (code == ZV_DONE)
         code = find(arena, words, b, &place);
-    answer[0] = code == ZV_DONE ? arena[b - HEADER] - HEADER : 0;
-    return code;
+    if (code != ZV_DONE)
+        return refuse(answer, code);
+    answer[ZV_ASKED] = arena[place.chunk + 1] - LIVE_MARK;
+    answer[ZV_GRANTED] = arena[place.chunk] - HEADER;
+    return ZV_DONE;
 }
 
 uint32_t plain_report(const uint32_t *arena, size_t words, uint32_t answer[4])

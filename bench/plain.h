@@ -17,7 +17,7 @@ uint32_t plain_free(uint32_t *arena, size_t words, uint32_t b);
 uint32_t plain_resize(uint32_t *arena, size_t words, uint32_t b, uint32_t n, uint32_t answer[2]);
 uint32_t plain_relocate(uint32_t *arena, size_t words, uint32_t b, uint32_t n, uint32_t answer[2]);
 uint32_t plain_realloc(uint32_t *arena, size_t words, uint32_t b, uint32_t n, uint32_t answer[2]);
-uint32_t plain_size(const uint32_t *arena, size_t words, uint32_t b, uint32_t answer[1]);
+uint32_t plain_size(const uint32_t *arena, size_t words, uint32_t b, uint32_t answer[2]);
 uint32_t plain_report(const uint32_t *arena, size_t words, uint32_t answer[4]);
 uint32_t plain_write(const uint32_t *arena, size_t words, uint8_t *text, size_t bytes, uint32_t answer[1]);
 uint32_t plain_read(const uint8_t *text, size_t bytes, uint32_t *arena, size_t words);

@@ -4,7 +4,8 @@
 
 #include "zandervlecht.h"
 
-#define LIVE_MARK 4294967295u
+/* A live chunk's second word is this number and the words that were asked for; that of a free chunk is below it. */
+#define LIVE_MARK 2147483648u
 
 /* LEAST_CHUNK is the least size that a chunk may have, and LEAST_SPLIT the least that is split off from another. */
 enum { LIST_WORD = 1, FIRST_CHUNK = 2, HEADER = 2, LEAST_CHUNK = 4, LEAST_SPLIT = 8 };
@@ -42,7 +43,11 @@ static inline uint32_t walk(const uint32_t *arena, size_t words, struct tally *t
 
         if (size % 2 != 0 || size < LEAST_CHUNK || size > words - chunk)
             return ZV_DAMAGED;
-        if (second == LIVE_MARK) {
+        if (second >= LIVE_MARK) {
+            uint32_t asked = second - LIVE_MARK;
+
+            if (asked == 0 || asked > size - HEADER)
+                return ZV_DAMAGED;
             tally->live++;
         } else {
             if (wanted != chunk || second == chunk + size)

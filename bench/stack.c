@@ -70,19 +70,19 @@ static void run_filling(const char *title, enum filling filling)
 {
     static size_t starts[MOST_CHUNKS];
     struct step steps[CALLS] = {{SIZE, 0, 0}, {ALLOC, 0, 2}, {FREE, 0, 0}, {REALLOC, 0, 0}};
-    uint32_t report[4], granted[1];
+    uint32_t report[4], sized[2];
     size_t last;
     int i;
 
     fill_arena(filled, WORDS, filling, MANY);
     plain.report(filled, WORDS, report);
     last = chunks_of(filled, WORDS, starts) - 1;
-    while (filled[starts[last] + 1] != LIVE_MARK)
+    while (filled[starts[last] + 1] < LIVE_MARK)
         last--;
-    plain.size(filled, WORDS, (uint32_t)starts[last] + HEADER, granted);
+    plain.size(filled, WORDS, (uint32_t)starts[last] + HEADER, sized);
     for (i = 0; i < CALLS; i++)
         steps[i].block = (uint32_t)starts[last] + HEADER;
-    steps[CALLS - 1].n = granted[0] + 2;
+    steps[CALLS - 1].n = sized[ZV_GRANTED] + 2;
     printf("\n%s: %u chunks, %u of them free\n\n%-20s%10s%10s%10s%10s\n", title,
            report[ZV_LIVE_BLOCKS] + report[ZV_FREE_CHUNKS], report[ZV_FREE_CHUNKS], "", "size", "alloc", "free",
            "realloc");

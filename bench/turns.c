@@ -7,7 +7,7 @@
 
 static uint32_t make_size(const struct library *library, uint32_t *arena, size_t words, struct part *part)
 {
-    uint32_t answer[1];
+    uint32_t answer[2];
 
     return library->size(arena, words, part->block, answer);
 }
@@ -68,11 +68,13 @@ static uint32_t make_next_pair(const struct library *library, uint32_t *arena, s
     return codes | library->free(arena, words, answer[ZV_BLOCK]);
 }
 
+/* One word less, and then all of them: the block stays as it is, and only the word of what was asked for changes. */
 static uint32_t make_kept_resize(const struct library *library, uint32_t *arena, size_t words, struct part *part)
 {
     uint32_t answer[2];
+    uint32_t codes = library->resize(arena, words, part->block, part->there - 1, answer);
 
-    return library->resize(arena, words, part->block, part->there, answer);
+    return codes | library->resize(arena, words, part->block, part->back, answer);
 }
 
 static uint32_t make_resize(const struct library *library, uint32_t *arena, size_t words, struct part *part)
@@ -83,11 +85,13 @@ static uint32_t make_resize(const struct library *library, uint32_t *arena, size
     return codes | library->resize(arena, words, part->block, part->back, answer);
 }
 
+/* One word less, and then all of them, as above. */
 static uint32_t make_kept_realloc(const struct library *library, uint32_t *arena, size_t words, struct part *part)
 {
     uint32_t answer[2];
+    uint32_t codes = library->realloc(arena, words, part->block, part->there - 1, answer);
 
-    return library->realloc(arena, words, part->block, part->there, answer);
+    return codes | library->realloc(arena, words, part->block, part->back, answer);
 }
 
 static uint32_t make_realloc(const struct library *library, uint32_t *arena, size_t words, struct part *part)
@@ -134,9 +138,9 @@ const struct turn timed_turns[TURN_KINDS] = {
     {"alloc_best and free", make_best_pair, 2, 0, ZV_DONE, 1, ANYTHING, 0},
     {"alloc_next refused", make_next_refused, 1, 0, ZV_NO_ROOM, 0, ANYTHING, 0},
     {"alloc_next and free", make_next_pair, 2, 0, ZV_DONE, 1, ANYTHING, 0},
-    {"resize, kept", make_kept_resize, 1, 0, ZV_DONE, 0, ANYTHING, 0},
+    {"resize, kept", make_kept_resize, 2, 0, ZV_DONE, 0, ANYTHING, 0},
     {"resize, to and fro", make_resize, 2, 0, ZV_DONE, 1, A_GAP, LEAST_SPLIT},
-    {"realloc, kept", make_kept_realloc, 1, 0, ZV_DONE, 0, ANYTHING, 0},
+    {"realloc, kept", make_kept_realloc, 2, 0, ZV_DONE, 0, ANYTHING, 0},
     {"realloc, to and fro", make_realloc, 2, 0, ZV_DONE, 1, A_GAP, LEAST_SPLIT},
     {"move: realloc, back", make_move, 2, 2, ZV_DONE, 1, NO_GAP, 2},
     {"move: relocate", make_relocate, 2, 2, ZV_DONE, 1, NO_GAP, 0},
@@ -186,9 +190,9 @@ static int comes_back(const struct turn *turn, uint32_t *arena, size_t words, st
 /* Whether the chunk that starts at starts[i] is live and has above it what the turn is for. */
 static int is_candidate(const struct turn *turn, const uint32_t *arena, const size_t *starts, size_t i, size_t count)
 {
-    int gap_above = i + 1 < count && arena[starts[i + 1] + 1] != LIVE_MARK;
+    int gap_above = i + 1 < count && arena[starts[i + 1] + 1] < LIVE_MARK;
 
-    if (arena[starts[i] + 1] != LIVE_MARK)
+    if (arena[starts[i] + 1] < LIVE_MARK)
         return 0;
     return turn->above == ANYTHING || gap_above == (turn->above == A_GAP);
 }

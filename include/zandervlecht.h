@@ -2,8 +2,8 @@
  * The allocator of the logger board, for programs in C and C++.
  *
  * The caller lends an arena: a run of 32-bit words. The calls cut it into blocks and take them back. Link with
- * libzandervlecht.a; the rules are on the page docs/BOARD.md and, as definitions, in crates/rules/specs. What a call
- * costs in time and in stack is on the page docs/COST.md.
+ * libzandervlecht.a; the rules are on the page docs/RULES.md and, as definitions, in crates/layout/specs and
+ * crates/rules/specs. What a call costs in time and in stack is on the page docs/COST.md.
  *
  * What a call does. It is done exactly as the rules say, and returns ZV_DONE; or it returns the reason why it says no,
  * and then not one word of the arena and not one byte of the text has changed, the rover is where it was, and every
@@ -26,9 +26,10 @@
  * there can be several arenas, and one that was copied as a whole, or read from its picture, is as good as the first.
  *
  * A block is named by a number: the word of the arena at which it begins. Its words are arena + block up to, but not
- * with, arena + block + granted, where granted is what zv_size answers; they belong to whoever asked for the block,
- * from the grant until it is freed or granted anew, or zv_start or zv_read make the whole arena anew. All other words
- * of the arena are the library's: to store there damages the arena, and every call on it but these two then says so.
+ * with, arena + block + granted, where granted is what zv_size answers at ZV_GRANTED; they belong to whoever asked for
+ * the block, from the grant until it is freed or granted anew, or zv_start or zv_read make the whole arena anew. All
+ * other words of the arena are the library's: to store there can damage the arena, and every call on it but these two
+ * then says so; or it is not noticed, and a call answers what nobody asked for.
  *
  * Three fits. A new block is cut from a free chunk that is long enough; the fit says which one, where there are more:
  * with zv_alloc it is the lowest of them (first fit), with zv_alloc_best the smallest (best fit), with zv_alloc_next
@@ -68,7 +69,7 @@ enum zv_code {
     ZV_DONE = 0,
     /* The number of words is odd, or below ZV_LEAST_WORDS, or above ZV_GREATEST_WORDS, or not that of the picture. */
     ZV_LENGTH = 1,
-    /* The words are no sound arena: never started, or stored to where nobody may. */
+    /* The words are no sound arena: never started, stored to where nobody may, or with a block of an older library. */
     ZV_DAMAGED = 2,
     /* No live block has this number. */
     ZV_NOT_A_BLOCK = 3,
@@ -92,6 +93,12 @@ enum zv_granted {
     ZV_BLOCK = 0,
     /* Its granted words: as many as were asked for, or a few more. */
     ZV_GRANTED = 1
+};
+
+/* The first field of the answer of zv_size; behind it come the granted words, at ZV_GRANTED as after a grant. */
+enum zv_sized {
+    /* The words that were asked for when the block was granted last, which a picture keeps as well. */
+    ZV_ASKED = 0
 };
 
 /* The fields of the answer of zv_report. */
@@ -118,7 +125,7 @@ enum zv_kind {
     ZV_RESIZE = 4,
     /* It is zv_relocate with b and n, and answers block and granted. */
     ZV_RELOCATE = 5,
-    /* It is zv_size with b, and answers granted. */
+    /* It is zv_size with b, and answers the words asked for, in block, and granted. */
     ZV_SIZE = 6
 };
 
@@ -135,7 +142,7 @@ struct zv_request {
     uint32_t n;
     /* The code, as the call would return it. */
     uint32_t code;
-    /* The block's number after the call, 0 where the kind does not answer it or the request is refused. */
+    /* The block's number after the call or, for ZV_SIZE, the words asked for; 0 for ZV_FREE, and in a refusal. */
     uint32_t block;
     /* The granted words, 0 where the kind does not answer them or the request is refused. */
     uint32_t granted;
@@ -179,8 +186,8 @@ uint32_t zv_relocate(uint32_t *arena, size_t words, uint32_t b, uint32_t n, uint
 /* Makes block b one of at least n words: where it stands or, if it would have to move, elsewhere. */
 uint32_t zv_realloc(uint32_t *arena, size_t words, uint32_t b, uint32_t n, uint32_t answer[2]);
 
-/* Answers the granted words of block b. */
-uint32_t zv_size(const uint32_t *arena, size_t words, uint32_t b, uint32_t answer[1]);
+/* Answers the words that were asked for when block b was granted last, and its granted words. */
+uint32_t zv_size(const uint32_t *arena, size_t words, uint32_t b, uint32_t answer[2]);
 
 /* Answers the free words, the largest request, the live blocks and the free chunks. */
 uint32_t zv_report(const uint32_t *arena, size_t words, uint32_t answer[4]);

@@ -11,9 +11,9 @@ from concurrent.futures import ThreadPoolExecutor, as_completed
 TESTS = os.path.dirname(os.path.abspath(__file__))
 
 # Those that take longest begin first, the first of them because it builds the library for C; the others follow by name.
-LONGEST = ["test_teeth_c", "test_teeth_arenas", "test_teeth", "test_teeth_rows", "test_teeth_fits",
-           "test_teeth_pictures", "test_damaged_arenas", "test_c_face", "test_small_arenas", "test_random_lines",
-           "test_promise", "test_fit_runs"]
+LONGEST = ["test_teeth_c", "test_teeth_pictures", "test_teeth_arenas", "test_teeth", "test_teeth_rows",
+           "test_teeth_fits", "test_damaged_arenas", "test_c_face", "test_small_arenas", "test_random_lines",
+           "test_promise", "test_asked", "test_fit_runs"]
 
 
 def drivers():

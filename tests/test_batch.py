@@ -37,13 +37,13 @@ WITHOUT_B = [ALLOC]
 WITHOUT_N = [FREE, SIZE]
 
 # A lab of forty requests on a started arena of 64 words: what each asks, kind, b and n, and its code, block and granted
-# words, worked out by hand. The chunks are as the comment behind each change has them, the live ones in brackets; where
-# words are over, it says what becomes of them.
+# words, worked out by hand; a size has the words asked for in the place of the block. The chunks are as the comment
+# behind each change has them, the live ones in brackets; where words are over, it says what becomes of them.
 LAB_BEFORE = f"64 2 | 62 0 {counted(4, 63)}"
 LAB = [
     ((ALLOC, 0, 10), (0, 54, 10)),          # 50 [12]
     ((ALLOC, 54, 7), (0, 44, 8)),           # 40 [10] [12]
-    ((SIZE, 54, 0), (0, 0, 10)),
+    ((SIZE, 54, 0), (0, 10, 10)),
     ((ALLOC, 2**32 - 1, 0), (4, 0, 0)),
     ((ALLOC, 0, 61), (5, 0, 0)),
     ((ALLOC, 0, 60), (6, 0, 0)),
@@ -66,7 +66,7 @@ LAB = [
     ((REALLOC, 60, 39), (6, 0, 0)),
     ((REALLOC, 60, 38), (0, 20, 38)),       # [10] [6] [40] 6
     ((RESIZE, 20, 36), (0, 20, 36)),        # [10] [6] [38] 8: two over go to the free chunk
-    ((SIZE, 20, 2**32 - 1), (0, 0, 36)),
+    ((SIZE, 20, 2**32 - 1), (0, 36, 36)),
     ((2**32 - 1, 20, 36), (7, 0, 0)),
     ((RELOCATE, 14, 2), (0, 58, 6)),        # [10] 6 [38] [8]: four over are granted
     ((RELOCATE, 58, 6), (6, 0, 0)),
@@ -80,13 +80,13 @@ LAB = [
     ((FREE, 20, 20), (0, 0, 0)),            # [10] 44 [8]
     ((SIZE, 20, 0), (3, 0, 0)),
     ((ALLOC, 0, 34), (0, 22, 34)),          # [10] 8 [36] [8]: eight over stay free
-    ((SIZE, 4, 0), (0, 0, 8)),
+    ((SIZE, 4, 0), (0, 1, 8)),
 ]
-LAB_AFTER = (f"64 12 | 10 live {counted(4, 11)}"
-             f" | 8 0 {counted(44, 47)} 38 live"
+LAB_AFTER = (f"64 12 | 10 live1 {counted(4, 11)}"
+             f" | 8 0 {counted(44, 47)} 38 live29"
              f" | 36 live 1062 1063 {counted(48, 51)} 12 0 1054 1055 8 0 {counted(58, 63)}"
              f"   1040 1041 22 0 {counted(44, 47)} 8 0 1050 1051 12 0 1054 1055"
-             f" | 8 live {counted(44, 47)} 1062 1063")
+             f" | 8 live2 {counted(44, 47)} 1062 1063")
 
 # What a run must have met to mean anything: every kind with every code that it can give.
 CODES = {"alloc": (0, 1, 2, 4, 5, 6), "free": (0, 1, 2, 3), "realloc": (0, 1, 2, 3, 4, 5, 6),
@@ -105,10 +105,14 @@ OVER = [("words over", count) for count in range(batches.RECORD_WORDS)]
 
 
 def row(before, requests, after):
-    """A row: the words before, what each request asks and its answer, and the words after."""
+    """A row: the words before, what each request asks and its answer, and the words after.
+
+    What is `new` there was asked for by the last request.
+    """
     asked = [Record(*request, *OLD_ANSWER) for request, answer in requests]
     answered = [Record(*request, *answer) for request, answer in requests]
-    return Case(asked, [], words(before)), Answer(answered, [], words(after))
+    last = asked[-1].n if asked else 0
+    return Case(asked, [], words(before)), Answer(answered, [], words(after, last))
 
 
 def lab_row():
@@ -127,14 +131,14 @@ def single_rows(before, request, answer, after):
 
 def done_rows():
     """Lists of one request that is done, for each kind."""
-    granted = "16 0 | 6 live 1004 1005 1006 1007 | 4 live 1010 1011 | 4 live 1014 1015"
+    granted = "16 0 | 6 live3 1004 1005 1006 1007 | 4 new 1010 1011 | 4 live 1014 1015"
     freed = "16 2 | 10 0 1004 1005 1006 1007 4 0 1010 1011 | 4 live 1014 1015"
-    grown = "16 0 | 10 live 1004 1005 1006 1007 4 0 1010 1011 | 4 live 1014 1015"
-    cut = "16 6 | 4 live 1004 1005 | 6 0 4 0 1010 1011 | 4 live 1014 1015"
-    moved = "16 2 | 6 0 1004 1005 1006 1007 | 4 live 1004 1005 | 4 live 1014 1015"
+    grown = "16 0 | 10 new 1004 1005 1006 1007 4 0 1010 1011 | 4 live 1014 1015"
+    cut = "16 6 | 4 new 1004 1005 | 6 0 4 0 1010 1011 | 4 live 1014 1015"
+    moved = "16 2 | 6 0 1004 1005 1006 1007 | 4 new 1004 1005 | 4 live 1014 1015"
     for request, answer, after in (((ALLOC, 0, 2), (0, 10, 2), granted), ((FREE, 4, 0), (0, 0, 0), freed),
                                    ((REALLOC, 4, 6), (0, 4, 8), grown), ((RESIZE, 4, 2), (0, 4, 2), cut),
-                                   ((RELOCATE, 4, 2), (0, 10, 2), moved), ((SIZE, 4, 0), (0, 0, 4), SHORT_GAP)):
+                                   ((RELOCATE, 4, 2), (0, 10, 2), moved), ((SIZE, 4, 0), (0, 3, 4), SHORT_GAP)):
         yield from single_rows(SHORT_GAP, request, answer, after)
 
 

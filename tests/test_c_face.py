@@ -2,6 +2,7 @@
 
 import os
 
+import test_asked
 import test_call_rows
 import test_damaged_arenas
 import test_fit_rows
@@ -13,7 +14,7 @@ from support.comparing import run_lines
 CALLS = 20000
 
 # The drivers whose cases and rows are made through C.
-DRIVERS = [test_damaged_arenas, test_call_rows, test_fit_rows, test_fit_runs, test_pictures]
+DRIVERS = [test_damaged_arenas, test_call_rows, test_fit_rows, test_fit_runs, test_pictures, test_asked]
 
 # The examples, each with the words behind the command that runs it: the first is run without a name.
 EXAMPLES = {"sampling": [], "experiment": ["experiment"]}
@@ -39,6 +40,7 @@ def compare(chosen):
     """The examples, then the cases and the rows of other drivers; the last line has what these say."""
     try:
         chosen.cases, chosen.picture_cases = build(chosen.root, "c_cases"), build(chosen.root, "c_pictures")
+        chosen.batch_cases = build(chosen.root, "c_batch")
     except c_programs.NotHere as told:
         return f"nothing was compared{c_programs.skipped([str(told)])}"
     lines = sum(compare_example(chosen.root, name) for name in EXAMPLES)

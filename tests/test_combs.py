@@ -57,7 +57,7 @@ def comb(gaps, teeth):
     words = [1000 + at for at in range(length)]
     arenas.store_headers(words, pieces)
     blocks = [(start + model.HEADER, start + size) for start, size, live in pieces if live]
-    return words, {block: words[block:end] for block, end in blocks}
+    return words, {block: ledger.Entry(end - block, words[block:end]) for block, end in blocks}
 
 
 def comb_looks(random, asked, count):

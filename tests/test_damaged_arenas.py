@@ -43,7 +43,7 @@ def block_for(random, arena):
         live = [piece for piece in arena.chunks if piece.live and kind < 0.7]
         block = random.choice(live or arena.chunks).start + 2
         return block if kind < 0.79 else max(block + random.choice([-4, -2, -1, 1, 2, 4, 65536, 2**31]), 0)
-    imitated = [at + 2 for at in range(2, length - 1) if arena.words[at + 1] == model.LIVE_MARK]
+    imitated = [at + 2 for at in range(2, length - 1) if arena.words[at + 1] >= model.LIVE_MARK]
     if imitated and kind < 0.95:
         return random.choice(imitated)
     return random.choice(BIG + [3, 4, 5, length, length + 2, random.getrandbits(32), random.randrange(length + 3)])

@@ -1,10 +1,14 @@
-"""Holds the programs and the model to document 01's rows, as item 6 of document 02 leaves them, written out here."""
+"""Holds the programs and the model to document 01's rows, as items 6 and 9 of document 02 leave them, written out here.
+
+Item 9 changes no line: what was asked for stands in the words, and in what size answers.
+"""
 
 from support import cases, driver, lines, model, programs
 from support.cases import Case
 from support.comparing import compare_own_cases, compare_replies, run_lines, run_rows
 
-MARK = model.LIVE_MARK
+# The second words of live chunks for which two words were asked, and six.
+TWO, SIX = model.LIVE_MARK + 2, model.LIVE_MARK + 6
 
 # "A whole run": input on the left, output on the right. From 02000A on the replies are those of item 6 of document 02,
 # worked out again by hand: the six words that this request leaves over are granted with it, and so block 10 never is.
@@ -73,7 +77,7 @@ def length_cases():
 def six_word_cases():
     """Six words hold one block of two, and no request for three."""
     fresh = [6, 2, 4, 0, 1004, 1005]
-    full = [6, 0, 4, MARK, 1004, 1005]
+    full = [6, 0, 4, TWO, 1004, 1005]
     yield Case(cases.START, 0, 0, arena(6)), answer(0, (), fresh)
     yield Case(cases.ALLOC, 0, 2, fresh), answer(0, (4, 2), full)
     yield Case(cases.ALLOC, 0, 3, fresh), answer(5, (0, 0), fresh)
@@ -83,16 +87,16 @@ def six_word_cases():
 def move_cases():
     """A block of two between a gap and a live block moves down to have six; its words go with it."""
     fresh = arena(32, (0, 32), (1, 2), (2, 30), (3, 0))
-    upper = ((28, 4), (29, MARK))
+    upper = ((28, 4), (29, TWO))
     one = arena(32, (0, 32), (1, 2), (2, 26), (3, 0), *upper)
-    two = arena(32, (0, 32), (1, 2), (2, 22), (3, 0), (24, 4), (25, MARK), *upper)
-    moved = arena(32, (0, 32), (1, 2), (2, 14), (3, 24), (16, 8), (17, MARK), (18, 1026), (19, 1027),
+    two = arena(32, (0, 32), (1, 2), (2, 22), (3, 0), (24, 4), (25, TWO), *upper)
+    moved = arena(32, (0, 32), (1, 2), (2, 14), (3, 24), (16, 8), (17, SIX), (18, 1026), (19, 1027),
                   (24, 4), (25, 0), *upper)
     yield Case(cases.START, 0, 0, arena(32)), answer(0, (), fresh)
     yield Case(cases.ALLOC, 0, 2, fresh), answer(0, (30, 2), one)
     yield Case(cases.ALLOC, 0, 2, one), answer(0, (26, 2), two)
     yield Case(cases.REALLOC, 26, 6, two), answer(0, (18, 6), moved)
-    yield Case(cases.SIZE, 18, 0, moved), answer(0, (6,), moved)
+    yield Case(cases.SIZE, 18, 0, moved), answer(0, (6, 6), moved)
     yield Case(cases.REPORT, 0, 0, moved), answer(0, (18, 12, 2, 2), moved)
 
 

@@ -31,7 +31,10 @@ READINGS = [200 + 25 * at - at * at for at in range(20)]
 NOT_DRAWN = [(b"", "picture"), (b"060006\n", "picture"), (b"06\xff", "ascii"), (b"060000\n", "number of its words"),
              (b"060002\n0700000000000200000000\n", "number of its words"),
              (b"060006\n070000000000070000000200000004000000000000000000000000\n", "number of its words"),
-             (b"060006\n070000000000060000000200000002000000000000000000000000\n", "no chunk at word 2")]
+             (b"060006\n070000000000060000000200000002000000000000000000000000\n", "no chunk at word 2"),
+             (b"060006\n070000000000060000000000000004FFFFFFFF0000000000000000\n", "granted for 2147483647 words"),
+             (b"060006\n070000000000060000000000000004800000030000000000000000\n", "granted for 3 words"),
+             (b"060006\n070000000000060000000000000004800000000000000000000000\n", "granted for 0 words")]
 
 # How many requests a lab has, and what else makes it one: each kind done, and the refusals that a pupil meets.
 REQUESTS = 40
@@ -53,7 +56,8 @@ LAB_NOT_DRAWN = [(b"", "first two lines"), (HEAD[:21], "first two lines"), (HEAD
                  (HEAD + b"1 alloc 0 4 0 12 0\n", "none of this arena"),
                  (FIRST + b"2 alloc 0 4 0 7 4\n", "overlaps block 12"),
                  (FIRST + b"2 relocate 12 4 0 7 4\n", "overlaps block 12"),
-                 (FIRST + b"2 free 10 0 0 0 0\n", "not held"), (FIRST + b"2 size 12 0 0 0 6\n", "another size"),
+                 (FIRST + b"2 free 10 0 0 0 0\n", "not held"), (FIRST + b"2 size 12 0 0 4 6\n", "another size"),
+                 (FIRST + b"2 size 12 0 0 3 4\n", "another size"),
                  (FIRST + b"2 free 12 0 0 0 0\n3 resize 12 2 0 12 2\n", "not held"),
                  (FIRST + b"2 alloc 0 4 6 6 4\n", "no answer of a refused"),
                  (FIRST + b"2 alloc 0 4 9 0 0\n", "no answer of a refused"),

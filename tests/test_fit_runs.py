@@ -39,7 +39,7 @@ def compare_turns(command, turns):
     for turn in turns:
         held = [ledger.noted(held, case, next(replies)) for case in turn.asked][turn.followed]
         for block, at, word in turn.stores:
-            held[block][at] = word
+            held[block].words[at] = word
     return len(asked)
 
 

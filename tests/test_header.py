@@ -10,16 +10,17 @@ from support.comparing import run_lines
 LANGUAGES = ["c99", "c11", "c++11"]
 ALONE = """#include "zandervlecht.h"
 #include "zandervlecht.h"
-static uint32_t arena[ZV_LEAST_WORDS], answer[2];
+static uint32_t arena[ZV_LEAST_WORDS], answer[2], sized[2];
 static struct zv_rover rover = {0};
 static struct zv_request request = {ZV_FREE, 0, 0, ZV_FRAME, 0, 0};
 int main(void)
 {
     zv_start(arena, ZV_LEAST_WORDS);
     zv_alloc_next(arena, ZV_LEAST_WORDS, &rover, 1, answer);
+    zv_size(arena, ZV_LEAST_WORDS, answer[ZV_BLOCK], sized);
     request.b = answer[ZV_BLOCK];
     zv_batch(arena, ZV_LEAST_WORDS, &request, 1);
-    return (int)request.code;
+    return request.code != ZV_DONE || sized[ZV_ASKED] != 1 || sized[ZV_GRANTED] != answer[ZV_GRANTED];
 }
 """
 
@@ -30,7 +31,7 @@ INDEX_BEGINS = 68
 
 
 def compile_alone(root, language):
-    """Builds the program of a language, and runs it: it ends with status 0 where a block was granted and freed."""
+    """Builds the program of a language, and runs it: it ends with status 0 where a block was granted, sized, freed."""
     command = c_programs.build_text("alone_" + language, language, ALONE, root)
     run_lines(command, b"", expected=b"")
 

@@ -1,8 +1,9 @@
-"""Holds grants, frees and reports on arenas of up to 26 words to the model: every list of chunks, block and request.
+"""Holds grants, frees, sizes and reports on arenas of up to 26 words to the model: all lists, blocks and requests.
 
-Each list of chunks that fills an arena of such a length comes once, with its other words filled in one way. With 26
-words eight can be split off between two free chunks, before a live one: free 4, live 12, live 4, free 4. Where there
-are two free chunks or three, next fit is asked with every rover up to two words above the end.
+Each list of chunks that fills an arena of such a length comes once, with its other words filled in one way, and each
+block has one word more than was asked for. With 26 words eight can be split off between two free chunks, before a live
+one: free 4, live 12, live 4, free 4. Where there are two free chunks or three, next fit is asked with every rover up to
+two words above the end.
 """
 
 from support import arenas, cases, driver, model
@@ -36,13 +37,13 @@ def next_cases_on(words, gaps):
 
 
 def cases_on(length, pieces):
-    """On an arena of these chunks: a report, a free of each chunk, and every request from 0 to one too large.
+    """On an arena of these chunks: a report, a free and the size of each, and every request from 0 to one too large.
 
     The requests are made of the arena, of which the fits have the number asked for as the rover, and of each of its
     chunks, the free ones too.
     """
     words = [1000 + at for at in range(length)]
-    arenas.store_headers(words, pieces)
+    arenas.store_headers(words, pieces, lambda piece: arenas.granted_in(piece) - 1)
     yield from next_cases_on(words, [piece.size for piece in pieces if not piece.live])
     for asked in range(length - 2):
         yield from (cases.Case(call, asked, asked, words) for call in cases.FITS)
@@ -50,7 +51,7 @@ def cases_on(length, pieces):
             for call in cases.TOGETHER:
                 yield cases.Case(call, piece.start + model.HEADER, asked, words)
     for piece in pieces:
-        yield cases.Case(cases.FREE, piece.start + model.HEADER, 0, words)
+        yield from (cases.Case(call, piece.start + model.HEADER, 0, words) for call in (cases.FREE, cases.SIZE))
     yield cases.Case(cases.REPORT, 0, 0, words)
 
 

@@ -7,25 +7,25 @@ test_teeth_c.py.
 import glob
 import os
 
-from support import batches, cases, driver, ledger, lines, looks, model, picture_cases, pictures, programs, teeth
+from support import asking, batches, cases, driver, ledger, lines, looks, model, picture_cases, pictures, programs
 from support import spoiled_batch, spoiled_c, spoiled_desk, spoiled_drawing, spoiled_fits, spoiled_headers
-from support import spoiled_not_run, spoiled_pages, spoiling
+from support import spoiled_not_run, spoiled_pages, spoiling, teeth
 from support.comparing import compare_answers, compare_replies, compare_together
 
 LINES = b"010020\n020005\n020001\n05\n03001A\n0Z\n"
-SOUND = [12, 6, 4, 4294967295, 77, 78, 6, 0, 79, 80, 81, 82]
+ONE, TWO = model.LIVE_MARK + 1, model.LIVE_MARK + 2
+SOUND = [12, 6, 4, ONE, 77, 78, 6, 0, 79, 80, 81, 82]
 CASES = [cases.Case(cases.ALLOC, 0, 2, SOUND), cases.Case(cases.VIEW, 4, 0, SOUND), cases.Case(cases.FREE, 4, 0, SOUND)]
 PICTURE = [picture_cases.Case(picture_cases.WRITE, bytes(range(125)), SOUND),
            picture_cases.Case(picture_cases.READ, pictures.picture_of(SOUND), [5] * len(SOUND)),
            picture_cases.Case(picture_cases.CHECK, cases.packed(SOUND), [])]
 BATCHES = [batches.Case([batches.Record(batches.ALLOC, 5, 2, 6, 7, 8), batches.Record(0, 5, 2, 6, 7, 8)], [9], SOUND),
            batches.Case([], [], SOUND[:5]), batches.Case([batches.Record(batches.SIZE, 4, 5, 6, 7, 8)], [], SOUND)]
-BETWEEN_LIVE = [16, 2, 6, 0, 71, 72, 73, 74, 4, 4294967295, 75, 76, 4, 4294967295, 77, 78]
-THREE_GAPS = [26, 2, 6, 12, 71, 72, 73, 74, 4, 4294967295, 75, 76, 4, 20, 77, 78, 4, 4294967295, 79, 80, 6, 0, 81, 82,
-              83, 84]
+BETWEEN_LIVE = [16, 2, 6, 0, 71, 72, 73, 74, 4, TWO, 75, 76, 4, TWO, 77, 78]
+THREE_GAPS = [26, 2, 6, 12, 71, 72, 73, 74, 4, TWO, 75, 76, 4, 20, 77, 78, 4, TWO, 79, 80, 6, 0, 81, 82, 83, 84]
 
 # What the ledger of the first of these arenas has, and a look at that arena: requests for two words, all of them sure.
-HELD = {4: [77, 78]}
+HELD = {4: ledger.Entry(1, [77, 78])}
 LOOK = looks.look_at(SOUND, HELD, [cases.Case(call, 4, 2, SOUND) for call in (*cases.FITS, *looks.MAY_MOVE)])
 
 
@@ -112,7 +112,8 @@ def wrong_fits():
 
 def wrong_notes():
     """Calls on an arena whose ledger has one block, and answers that no ledger allows."""
-    asked = {call: cases.Case(call, 4, 3, SOUND) for call in (*cases.FITS, cases.FREE, cases.RELOCATE, cases.REPORT)}
+    calls = (*cases.FITS, cases.FREE, cases.RELOCATE, cases.REPORT, cases.SIZE)
+    asked = {call: cases.Case(call, 4, 3, SOUND) for call in calls}
     true = {call: cases.answer_to(case) for call, case in asked.items()}
     lost = [*SOUND[:4], 70, *SOUND[5:]]
     for call in cases.FITS:
@@ -126,6 +127,10 @@ def wrong_notes():
     yield "a free of a block that is held, refused", asked[cases.FREE], model.Answer(3, (), [], SOUND)
     yield "a free of a block that is not held", asked[cases.FREE]._replace(block=8), true[cases.FREE]
     yield "another sum of words", asked[cases.REPORT], true[cases.REPORT]._replace(fields=(8, 4, 1, 1))
+    yield "another number of words asked for", asked[cases.SIZE], true[cases.SIZE]._replace(fields=(2, 2))
+    yield "another number of granted words", asked[cases.SIZE], true[cases.SIZE]._replace(fields=(1, 4))
+    yield "a size of a block that is held, refused", asked[cases.SIZE], model.Answer(3, (0, 0), [], SOUND)
+    yield "a size of a block that is not held", asked[cases.SIZE]._replace(block=8), true[cases.SIZE]
 
 
 def judged_notes():
@@ -133,6 +138,17 @@ def judged_notes():
     for what, case, wrong in wrong_notes():
         yield f"by the ledger: {what}", complains(ledger.noted, HELD, case, wrong)
         yield f"by the ledger: no {what}", not complains(ledger.noted, HELD, case, cases.answer_to(case))
+    yield "by the ledger: the true picture", ledger.pictured(SOUND) == HELD
+
+
+def judged_mails():
+    """Whether the ledger complains about a picture of its arena that shows other words, or another number asked for."""
+    for what, at, word in (("another number asked for", 3, TWO), ("another word of a holder", 5, 79)):
+        shown = [*SOUND[:at], word, *SOUND[at + 1:]]
+        written = pictures.Answer(model.DONE, 0, pictures.picture_of(shown), SOUND)
+        for own, told in ((True, "of its own arena"), (False, "of any other arena")):
+            mail = asking.Mail(PICTURE[:1], [written], own)
+            yield f"by the ledger: {what} {told}", complains(asking.ledger_mailed, HELD, mail, written) is own
 
 
 def answered(place, **parts):
@@ -180,7 +196,7 @@ def check_comparers():
     for three, true in (together(4, 3, SOUND), together(10, 3, BETWEEN_LIVE), together(13, 2, THREE_GAPS, cases.FITS),
                         together(21, 2, THREE_GAPS, cases.FITS), together(13, 5, THREE_GAPS, cases.FITS)):
         tried += [("the true replies together", not complains(compare_together, three, b"".join(true)))]
-    tried += [*judged_notes(), *judged_looks()]
+    tried += [*judged_notes(), *judged_mails(), *judged_looks()]
     tried += [("a board that keeps other chunks than its words have", complains(keep_other_chunks))]
     wrong_about = [what for what, right in tried if not right]
     if wrong_about:
@@ -191,7 +207,7 @@ def check_comparers():
 def check_all_tried():
     """Each driver is tried by a row of faults, or on spoiled copies, but for those that try the others."""
     named = {os.path.basename(path)[:-len(".py")] for path in glob.glob(os.path.join(programs.TESTS, "test_*.py"))}
-    tried = {trial.driver for trial in teeth.ROWS + teeth.LINES + teeth.ARENAS + teeth.PICTURES}
+    tried = {trial.driver for trial in teeth.ROWS + teeth.LINES + teeth.ARENAS + teeth.ASKED + teeth.PICTURES}
     tried |= {spoiled.DRIVER for spoiled in (spoiled_pages, spoiled_drawing, spoiled_fits, spoiled_not_run,
                                              spoiled_headers, spoiled_c, spoiled_batch, spoiled_desk)}
     untried = sorted(name for name in named - tried if not name.startswith("test_teeth"))

@@ -1,11 +1,12 @@
-"""Shows that the drivers of pictures and of batches complain: they have to see every fault of a program."""
+"""Shows that the drivers of pictures, of batches and of the words asked for complain: they have to see every fault."""
 
 from support import driver, teeth
 
 
 def compare(chosen):
     """Every faulty program; the last line counts them."""
-    return f"all {teeth.check_drivers(teeth.PICTURES + teeth.BATCHES, chosen.seed)} faulty programs were seen"
+    trials = teeth.PICTURES + teeth.BATCHES + teeth.ASKED
+    return f"all {teeth.check_drivers(trials, chosen.seed)} faulty programs were seen"
 
 
 if __name__ == "__main__":

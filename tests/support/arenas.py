@@ -2,19 +2,19 @@
 
 from collections import namedtuple
 
-from .model import LIVE_MARK, LEAST_ARENA, LEAST_CHUNK, FIRST_CHUNK, LONGEST_ARENA
+from .model import HEADER, LIVE_MARK, LEAST_ARENA, LEAST_CHUNK, FIRST_CHUNK, LONGEST_ARENA
 
 # An arena's words and its chunks, each with start, size and whether it is live.
 Arena = namedtuple("Arena", "words chunks")
 Piece = namedtuple("Piece", "start size live")
 
-HUGE = [2**31, 2**31 + 4, 2**32 - 4, 2**32 - 2, 2**32 - 1, 65536, 65540, 2**30]
+HUGE = [2**31 - 1, 2**31, 2**31 + 4, 2**32 - 4, 2**32 - 2, 2**32 - 1, 65536, 65540, 2**30]
 EDGES = [6, 8, 16380, 16382, 16383, 16384, 16385, 16386, 16400]
 
 
 def some_words(random, count, length):
-    """Words that lie about: small numbers, numbers near the arena's length, marks, and any 32 bits."""
-    pool = [0, 1, 2, 3, 4, 4, 6, 8, 10, LIVE_MARK, LIVE_MARK, length, max(length - 2, 0), length + 2]
+    """Words that lie about: small numbers, numbers near the arena's length, second words, and any 32 bits."""
+    pool = [0, 1, 2, 3, 4, 4, 6, 8, 10, LIVE_MARK + 1, LIVE_MARK + 2, length, max(length - 2, 0), length + 2]
     pool += [2 * random.randrange(length // 2 + 1) for _ in range(4)]
     pool += [random.getrandbits(32) for _ in range(4)]
     kinds = len(pool)
@@ -45,15 +45,34 @@ def random_pieces(random, length):
     return pieces_of(random, sizes, random.choice([0.1, 0.4, 0.4, 0.6, 0.9, 1]))
 
 
-def store_headers(words, pieces):
-    """Stores the control words and the header of every chunk, the free ones linked in rising order."""
+def granted_in(piece):
+    """The words that a live chunk grants."""
+    return piece.size - HEADER
+
+
+def some_asked(random, size):
+    """How many words can have been asked for of a live chunk of this size: all, one less, the least, or any number."""
+    most = max(size - HEADER, 1)
+    return random.choice([most, most, max(most - 1, 1), 1, 1 + int(random.random() * most)])
+
+
+def store_headers(words, pieces, asked_of=granted_in):
+    """Stores the control words and the header of every chunk, the free ones linked in rising order.
+
+    `asked_of` says how many words were asked for of a live one: all that it grants, if nothing else is said.
+    """
     words[0] = len(words)
     following = 0
     for piece in reversed(pieces):
         words[piece.start] = piece.size
-        words[piece.start + 1] = LIVE_MARK if piece.live else following
+        words[piece.start + 1] = LIVE_MARK + asked_of(piece) if piece.live else following
         following = following if piece.live else piece.start
     words[1] = following
+
+
+def store_some_headers(random, words, pieces):
+    """Stores the headers of these chunks, the live ones with some number of words that were asked for."""
+    store_headers(words, pieces, lambda piece: some_asked(random, piece.size))
 
 
 def store_imitations(random, words, pieces):
@@ -62,7 +81,7 @@ def store_imitations(random, words, pieces):
         if piece.size >= 8 and random.random() < 0.3:
             at = piece.start + 2 * random.randrange(1, piece.size // 2 - 1)
             words[at] = random.choice([4, 4, 6, piece.start + piece.size - at])
-            words[at + 1] = LIVE_MARK
+            words[at + 1] = LIVE_MARK + some_asked(random, words[at])
 
 
 def long_pieces(random, length):
@@ -77,7 +96,7 @@ def arena_of(random, length, pieces):
     """An arena of these chunks; what lies in its blocks and gaps is random."""
     words = some_words(random, length, length)
     store_imitations(random, words, pieces)
-    store_headers(words, pieces)
+    store_some_headers(random, words, pieces)
     return Arena(words, pieces)
 
 
@@ -121,20 +140,28 @@ def wrong_size(random, arena):
 
 
 def wrong_link(random, arena):
-    """Word 1 or the second word of one chunk: nowhere, itself, another chunk, inside a block, or a live mark."""
+    """Word 1 or the second word of one chunk: nowhere, itself, another chunk, inside a block, or that of a live one."""
     place = random.choice([0] + [piece.start for piece in arena.chunks]) + 1
     other = random.choice(arena.chunks).start
     length = len(arena.words)
     arena.words[place] = random.choice(
-        [0, 1, 2, other, other, other, other + 1, other + 2, place - 1, length, length + 2, LIVE_MARK,
+        [0, 1, 2, other, other, other, other + 1, other + 2, place - 1, length, length + 2, LIVE_MARK + 1,
          random.choice(HUGE)])
+
+
+def wrong_asked(random, arena):
+    """The second word of one chunk is that of a live one, with words asked for that are about their bounds, or any."""
+    piece = random.choice(arena.chunks)
+    near = [piece.size + change for change in (-4, -3, -2, -1, 0, 1)]
+    asked = random.choice([0, 0, 1, *near, len(arena.words), LIVE_MARK - 1, random.getrandbits(31)])
+    arena.words[piece.start + 1] = LIVE_MARK + asked
 
 
 def wrong_length_word(random, arena):
     """Word 0 is not the length."""
     length = len(arena.words)
     near = [length + change for change in (-2, -1, 1, 2)]
-    arena.words[0] = random.choice([0, *near, 16384, length + 65536, LIVE_MARK])
+    arena.words[0] = random.choice([0, *near, 16384, length + 65536, LIVE_MARK + length])
 
 
 def wrong_any_word(random, arena):
@@ -148,7 +175,7 @@ def neighbours_free(random, arena):
     place = random.randrange(len(arena.chunks))
     pieces = [piece._replace(live=False) if place <= at <= place + 1 else piece
               for at, piece in enumerate(arena.chunks)]
-    store_headers(arena.words, pieces)
+    store_some_headers(random, arena.words, pieces)
 
 
 def boundary_moved(random, arena):
@@ -160,13 +187,13 @@ def boundary_moved(random, arena):
     start = min(max(upper.start + random.choice([-3, -2, -1, 1, 2, 3]), lower.start + 2), upper.start + upper.size - 2)
     moved = [lower._replace(size=start - lower.start),
              upper._replace(start=start, size=upper.start + upper.size - start)]
-    store_headers(arena.words, arena.chunks[:place] + moved + arena.chunks[place + 2:])
+    store_some_headers(random, arena.words, arena.chunks[:place] + moved + arena.chunks[place + 2:])
 
 
 def mark_changed(random, arena):
-    """A live mark is missing, or stands where a chunk is free, and the links are not told."""
+    """A live chunk has no mark, or a free one has the second word of a live one, and the links are not told."""
     piece = random.choice(arena.chunks)
-    arena.words[piece.start + 1] = 0 if piece.live else LIVE_MARK
+    arena.words[piece.start + 1] = 0 if piece.live else LIVE_MARK + some_asked(random, piece.size)
 
 
 def wrong_order(random, arena):
@@ -188,8 +215,8 @@ def wrong_order(random, arena):
 
 # Those that store all headers anew come first, so that they do not undo the others.
 ANEW = [neighbours_free, boundary_moved]
-SPOILS = [wrong_size, wrong_size, wrong_link, wrong_link, wrong_length_word, wrong_any_word, wrong_any_word,
-          mark_changed, wrong_order]
+SPOILS = [wrong_size, wrong_size, wrong_link, wrong_link, wrong_asked, wrong_asked, wrong_length_word, wrong_any_word,
+          wrong_any_word, mark_changed, wrong_order]
 
 
 def spoiled_arena(random, length):
@@ -221,7 +248,7 @@ def arena_for(random, number):
 
 def full_arena(every_second_free):
     """An arena of the most words with the most chunks there can be: all live, or the first and every second free."""
-    words = [LIVE_MARK, 77, 78, LEAST_CHUNK] * (LONGEST_ARENA // LEAST_CHUNK)
+    words = [LIVE_MARK + 1, 77, 78, LEAST_CHUNK] * (LONGEST_ARENA // LEAST_CHUNK)
     starts = range(FIRST_CHUNK, LONGEST_ARENA - LEAST_CHUNK, LEAST_CHUNK)
     pieces = [Piece(start, LEAST_CHUNK, at % 2 == 1 or not every_second_free) for at, start in enumerate(starts)]
     pieces[-1] = pieces[-1]._replace(size=LEAST_CHUNK + 2)

@@ -30,4 +30,37 @@ def stop_at_refusal():
     spoil_answers(spoil)
 
 
-BATCH_FAULTS = {"over": clear_words_over, "stop": stop_at_refusal}
+def told_of_size(record, told):
+    """A record, or where it is one of a size that was done, with `told` for its block and its granted words."""
+    done = record.kind == batches.SIZE and record.code == model.DONE
+    return record._replace(**dict(zip(("block", "granted"), told(record)))) if done else record
+
+
+def answer_sizes(told):
+    """Fills in what `told` makes of the true record in the records of sizes."""
+    spoil_answers(lambda case, answer: answer._replace(
+        records=[told_of_size(record, told) for record in answer.records]))
+
+
+def leave_out_asked():
+    """Leaves the words asked for out of the record of a size."""
+    answer_sizes(lambda record: (0, record.granted))
+
+
+def asked_for_granted():
+    """Has the words asked for in the place of the granted words, too."""
+    answer_sizes(lambda record: (record.block, record.block))
+
+
+def granted_for_asked():
+    """Has the granted words in the place of the words asked for, too."""
+    answer_sizes(lambda record: (record.granted, record.granted))
+
+
+def block_for_asked():
+    """Has the block's number in the place of the words asked for."""
+    answer_sizes(lambda record: (record.b, record.granted))
+
+
+BATCH_FAULTS = {"over": clear_words_over, "stop": stop_at_refusal, "unasked": leave_out_asked,
+                "askedtwice": asked_for_granted, "grantedtwice": granted_for_asked, "blockasked": block_for_asked}

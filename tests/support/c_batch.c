@@ -15,8 +15,8 @@
 enum fault {
     NONE, STOPS_AT_REFUSAL, STOPS_AT_UNKNOWN, BACKWARDS, SKIPS_LAST, ONE_TOO_MANY, COUNTS_IN_A_BYTE, NEXT_RECORD,
     BYTE_OF_KIND, SWAPPED_KINDS, SWAPPED_NUMBERS, LOOKS_AT_B, LOOKS_AT_N, LENGTH_FIRST, DAMAGE_FIRST, BLOCK_OF_FREE,
-    SIZE_AS_BLOCK, KEEPS_OLD_ANSWER, OVERWRITES_KIND, OVERWRITES_B, OVERWRITES_N, WORD_OF_REFUSAL, BEFORE_LIST,
-    BEHIND_LIST, BEFORE_ARENA, BEHIND_ARENA
+    SIZE_AS_BLOCK, LEAVES_OUT_ASKED, KEEPS_OLD_ANSWER, OVERWRITES_KIND, OVERWRITES_B, OVERWRITES_N, WORD_OF_REFUSAL,
+    BEFORE_LIST, BEHIND_LIST, BEFORE_ARENA, BEHIND_ARENA
 };
 #ifndef FAULT
 #define FAULT NONE
@@ -73,7 +73,10 @@ static struct lab copy_of(const struct lab *lab)
     return copy;
 }
 
-/* The code of a request made singly; the block and the granted words go into the answer, which is 0, 0 before. */
+/*
+ * The code of a request made singly; the block and the granted words go into the answer, which is 0, 0 before. A size
+ * has the words asked for in the place of the block, in its answer as in its record.
+ */
 static uint32_t made_singly(const struct zv_request *asked, uint32_t *arena, size_t words, uint32_t answer[2])
 {
     switch (asked->kind) {
@@ -82,7 +85,7 @@ static uint32_t made_singly(const struct zv_request *asked, uint32_t *arena, siz
     case ZV_REALLOC: return zv_realloc(arena, words, asked->b, asked->n, answer);
     case ZV_RESIZE: return zv_resize(arena, words, asked->b, asked->n, answer);
     case ZV_RELOCATE: return zv_relocate(arena, words, asked->b, asked->n, answer);
-    case ZV_SIZE: return zv_size(arena, words, asked->b, &answer[ZV_GRANTED]);
+    case ZV_SIZE: return zv_size(arena, words, asked->b, answer);
     default: return ZV_FRAME;
     }
 }
@@ -151,7 +154,7 @@ static struct zv_request asked_with_fault(struct zv_request asked, size_t words)
 /* Spoils what came of a request, where a fault is asked for; `old` is its record before. */
 static void spoil_answer(struct zv_request *told, const struct zv_request *old, uint32_t *arena, size_t words)
 {
-    uint32_t granted = told->granted, ignored[1];
+    uint32_t granted = told->granted, ignored[2];
     uint32_t first = FAULT == LENGTH_FIRST ? ZV_LENGTH : FAULT == DAMAGE_FIRST ? ZV_DAMAGED : ZV_FRAME;
     if (told->code == ZV_FRAME && first == zv_size(arena, words, told->b, ignored))
         told->code = first;
@@ -161,6 +164,8 @@ static void spoil_answer(struct zv_request *told, const struct zv_request *old, 
         told->granted = told->block;
         told->block = granted;
     }
+    if (FAULT == LEAVES_OUT_ASKED && told->kind == ZV_SIZE)
+        told->block = 0;
     if (FAULT == KEEPS_OLD_ANSWER && told->code != ZV_DONE) {
         told->block = old->block;
         told->granted = old->granted;

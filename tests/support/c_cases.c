@@ -14,7 +14,7 @@
 enum fault {
     NONE, SWAPPED_FIELDS, FIELD_OF_REFUSAL, BEFORE_ANSWER, BEHIND_ANSWER, BEFORE_ARENA, BEHIND_ARENA, BEST_AS_FIRST,
     NEXT_AS_FIRST, ROVER_IGNORED, ROVER_KEPT, ROVER_AT_BLOCK, ROVER_AT_GRANT, ROVER_OF_REFUSAL, BEFORE_ROVER,
-    BEHIND_ROVER
+    BEHIND_ROVER, GRANTED_TWICE, ASKED_TWICE
 };
 #ifndef FAULT
 #define FAULT NONE
@@ -41,7 +41,7 @@ static size_t field_count(uint32_t call)
 {
     switch (call) {
     case ALLOC: case ALLOC_BEST: case ALLOC_NEXT: case RESIZE: case RELOCATE: case REALLOC: return 2;
-    case SIZE: case VIEW: case VIEW_MUT: return 1;
+    case SIZE: case VIEW: case VIEW_MUT: return 2;
     case REPORT: return 4;
     default: return 0;
     }
@@ -106,6 +106,10 @@ static uint32_t made_with_fault(const struct question *asked, uint32_t *arena, s
         answer[0] = answer[1];
         answer[1] = first;
     }
+    if (FAULT == GRANTED_TWICE && asked->call == SIZE)
+        answer[ZV_ASKED] = answer[ZV_GRANTED];
+    if (FAULT == ASKED_TWICE && asked->call == VIEW)
+        answer[ZV_GRANTED] = answer[ZV_ASKED];
     if (FAULT == FIELD_OF_REFUSAL && count > 0 && code != ZV_DONE)
         answer[count - 1] = 4;
     if (FAULT == BEFORE_ANSWER && count > 0)
@@ -128,7 +132,7 @@ static struct reply reply_to(const struct question *asked, uint32_t *arena)
     struct zv_rover *rover = fresh_room(sizeof *rover);
     uint32_t code = made_with_fault(asked, arena, rover, fields);
     if (asked->call == VIEW || asked->call == VIEW_MUT) {
-        told.part_words = code == ZV_DONE ? fields[0] : 0;
+        told.part_words = code == ZV_DONE ? fields[ZV_GRANTED] : 0;
     } else {
         told.code = code;
         memcpy(told.fields, fields, count * sizeof *fields);

@@ -39,8 +39,14 @@ KINDS = re.compile(r"\nfn call\(.*?match kind \{(.*?)\n    \}", re.DOTALL)
 KIND = re.compile(r"(\d+) => answers::(\w+)_numbers\(arena::(\w+)\(a(?:, (\w+(?:, \w+)*))?\)\),")
 UNKNOWN_KIND = "_ => answers::refusal_numbers(0, Reason::Frame),"
 
-# The fields that a record has of each answer.
-ANSWERED = {"granted": ["block", "granted"], "sized": ["granted"], "finish": []}
+# The fields that a record has of each answer: a size has the words asked for in the place of the block.
+ANSWERED = {"granted": ["block", "granted"], "sized": ["block", "granted"], "finish": []}
+
+# Where a function of the code begins, with its name; a function of `telling` that another crate calls; and one of these
+# that is called after the answer that it tells.
+FUNCTION = re.compile(r"\bfn (\w+)\(")
+TELLING = re.compile(r"\btelling::(\w+)\(")
+TELLS = re.compile(r"\btell_(\w+)\(")
 
 COMMENT = re.compile(r"/\*(.*?)\*/", re.DOTALL)
 LINKAGE = re.compile(r'extern "C" \{(.*)\}', re.DOTALL)
@@ -135,11 +141,37 @@ def codes(layout):
         yield f"enum zv_code: ZV_{upper(reason)} = {numbers.get(reason, 'of no number')}"
 
 
+def entries_in(inside):
+    """The fields that a case of an enum has, as entries of an enum of C, counted from 0."""
+    return [f"ZV_{field.upper()} = {at}" for at, field in enumerate(re.findall(r"(\w+): u32", inside))]
+
+
+def entries_of(answers):
+    """The entries of each answer that has more than one field."""
+    return {f"zv_{name.lower()}": entries_in(inside) for name, inside in ANSWER.findall(answers)}
+
+
 def fields(answers):
-    """The fields of each answer that has more than one, counted from 0."""
-    for name, inside in ANSWER.findall(answers):
-        for at, field in enumerate(re.findall(r"(\w+): u32", inside)):
-            yield f"enum zv_{name.lower()}: ZV_{field.upper()} = {at}"
+    """The entries of each answer; one that another answer has before, in the same place, is not declared again."""
+    before = set()
+    for enum, entries in entries_of(answers).items():
+        yield from (f"enum {enum}: {entry}" for entry in entries if entry not in before)
+        before.update(entries)
+
+
+def functions_in(source):
+    """The functions of some code: the name of each, and its text up to the next one."""
+    head, *parts = FUNCTION.split(source)
+    return dict(zip(parts[::2], parts[1::2]))
+
+
+def answering(root, answer):
+    """The functions for C that tell this answer, by themselves or through another function of `telling`."""
+    tellers = functions_in(source_of(root, "telling"))
+    for name, text in functions_in(source_of(root, "zandervlecht")).items():
+        through = "".join(tellers.get(called, "") for called in TELLING.findall(text))
+        if answer in TELLS.findall(text + through):
+            yield name
 
 
 def kind_lines(root):
@@ -255,13 +287,16 @@ def wrong_comments(said, found):
             yield f"before {name} stands no comment of one sentence"
 
 
-def wrong_lists(said, found):
-    """Enums of fields whose comment does not name the functions that have so many fields, those and no others."""
-    for enum in sorted(types_in(found, "enum") - {"zv_code", "zv_kind"}):
-        count = sum(line.startswith(f"enum {enum}: ") for line in found)
-        answering = {name_of(line) for line in found if f"answer[{count}]" in line}
-        if set(NAME.findall(said.get(enum, ""))) != answering:
-            yield f"the comment before {enum} does not name {', '.join(sorted(answering))} alone"
+def wrong_lists(root, said, found):
+    """Enums of fields whose comment does not name the functions that answer so, those and no others.
+
+    A field of such an answer that is declared in another enum has to be named besides.
+    """
+    for enum, entries in entries_of(source_of(root, "answers")).items():
+        elsewhere = [name_of(entry) for entry in entries if f"enum {enum}: {entry}" not in found]
+        due_names = {*answering(root, enum[len("zv_"):]), *elsewhere}
+        if set(NAME.findall(said.get(enum, ""))) != due_names:
+            yield f"the comment before {enum} does not name {', '.join(sorted(due_names))} alone"
 
 
 def wrong_kind_comments(root, said):
@@ -294,6 +329,6 @@ def look(root):
     faults = [*wrong_marks(root), *wrong_kinds(root), *wrong_declarations(due(root), found)]
     if not faults:
         said = said_before(text)
-        faults = [*wrong_comments(said, found), *wrong_lists(said, found), *wrong_kind_comments(root, said),
+        faults = [*wrong_comments(said, found), *wrong_lists(root, said, found), *wrong_kind_comments(root, said),
                   *wrong_words(root, text, found)]
     return faults, found

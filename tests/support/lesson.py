@@ -16,6 +16,7 @@ class Lesson:
         self.random = random
         self.words = arenas.some_words(random, length, length)
         self.granted = {}
+        self.asked_for = {}
         self.given_back = 4
         self.usual = random.randint(2, max(length // 15, 8))
         self.filling = True
@@ -86,9 +87,10 @@ class Lesson:
             return
         if case.call in ledger.END:
             self.given_back = case.block
-            del self.granted[case.block]
+            del self.granted[case.block], self.asked_for[case.block]
         if case.call in ledger.GRANT:
-            self.granted[answer.fields[0]] = answer.fields[1]
+            block, granted = answer.fields[:2]
+            self.granted[block], self.asked_for[block] = granted, case.asked
         if case.call == cases.ALLOC_NEXT:
             self.rover, self.carried = answer.fields[2], True
 

@@ -39,8 +39,9 @@ class Looking(Lesson):
         return Look(None, turn.asked, turn.answers)
 
     def held(self):
-        """What the ledger has: each block, and its words."""
-        return {block: self.words[block:block + granted] for block, granted in self.granted.items()}
+        """What the ledger has: each block, with the words that were asked for and those that it holds."""
+        return {block: ledger.Entry(self.asked_for[block], self.words[block:block + granted])
+                for block, granted in self.granted.items()}
 
     def go_on(self, calls, number, asked, more=(), due=None):
         """A look with the calls of a turn, from one of which the run goes on, and with more requests."""

@@ -1,15 +1,17 @@
-"""The rules for one arena, document 01's with Items 1, 3 and 5 to 7 of document 02: answers, and every word left.
+"""The rules for one arena, document 01's with Items 1, 3, 5 to 7 and 9 of document 02: answers, and every word left.
 
 The model shares nothing with the library. It reads an arena as the stretches of words that are live; what lies
 between them is free. A rule looks at these stretches and says what is answered and which of them change; around each
 change the gaps are taken anew, and the headers there are stored. A chunk is a pair here: the word where it starts,
-and its size in words, header counted.
+and its size in words, header counted; how many words were asked for is read off its header.
 """
 
 import bisect
 from collections import namedtuple
 
-LIVE_MARK = 4294967295
+# A live chunk's second word is this number and the words that were asked for; a free chunk's is below it.
+LIVE_MARK = 2147483648
+
 FIRST_CHUNK = 2
 HEADER = 2
 LEAST_CHUNK = 4
@@ -56,16 +58,23 @@ def gaps_between(live, low, high):
     return gaps
 
 
+def could_ask(asked, size):
+    """Whether so many words can have been asked for of a live chunk of this size: some, and no more than it grants."""
+    return 1 <= asked <= size - HEADER
+
+
 def chunks_met(words):
     """The live and the free chunks met on the walk from word 2, or None where the walk fails."""
     live, free = [], []
     length = len(words)
     start = FIRST_CHUNK
     while start < length:
-        size = words[start]
+        size, second = words[start:start + HEADER]
         if size < LEAST_CHUNK or size % 2 == 1 or size > length - start:
             return None
-        kind = live if words[start + 1] == LIVE_MARK else free
+        if second >= LIVE_MARK and not could_ask(second - LIVE_MARK, size):
+            return None
+        kind = live if second >= LIVE_MARK else free
         kind.append((start, size))
         start += size
     return live, free
@@ -130,8 +139,11 @@ class Lent:
         self.words[:4] = [length, FIRST_CHUNK, length - FIRST_CHUNK, 0]
         self.kept = None
 
-    def become(self, start, size):
-        """The live chunk that starts here, which may be new, has this size from now on; with size 0 there is none."""
+    def become(self, start, size, asked):
+        """The live chunk that starts here, which may be new, has this size from now on; with size 0 there is none.
+
+        Its second word says how many words were asked for.
+        """
         live = self.kept[0]
         place = bisect.bisect_left(live, (start, 0))
         was_live = place < len(live) and live[place][0] == start
@@ -139,17 +151,17 @@ class Lent:
         live[place:place + was_live] = here
         low = sum(live[place - 1]) if place > 0 else FIRST_CHUNK
         high = live[place + len(here)][0] if place + len(here) < len(live) else len(self.words)
+        if here:
+            self.words[start:start + HEADER] = size, LIVE_MARK + asked
         self.settle(here, low, high)
 
     def settle(self, live, low, high):
-        """Takes the gaps around these live chunks anew, up to the live ones before and behind, and stores them all."""
+        """Takes the gaps around these live chunks anew, up to the live ones before and behind, and stores the gaps."""
         gaps = self.kept[1]
         first, last = bisect.bisect_left(gaps, (low, 0)), bisect.bisect_left(gaps, (high, 0))
         link_word = gaps[first - 1][0] + 1 if first > 0 else 1
         following = gaps[last][0] if last < len(gaps) else 0
         gaps[first:last] = around = gaps_between(live, low, high)
-        for start, size in live:
-            self.words[start:start + HEADER] = size, LIVE_MARK
         for start, size in around:
             self.words[link_word] = start
             self.words[start] = size
@@ -228,7 +240,7 @@ def grant_from(lent, asked, fit, *numbers):
         if room >= need:
             size = taken_from(room, need)
             start = gap + room - size
-            return block_and_grant(start, size), [(Lent.become, start, size)], gap
+            return block_and_grant(start, size), [(Lent.become, start, size, asked)], gap
     raise Refused(NO_ROOM)
 
 
@@ -254,7 +266,7 @@ def free_rule(lent, block):
     """The chunk is no longer live: its words fall to the gap around it."""
     live, gaps = lent.chunks()
     start, size = live[place_of(live, block)]
-    return (), [(Lent.become, start, 0)]
+    return (), [(Lent.become, start, 0, 0)]
 
 
 def kept_of(size, room, need):
@@ -265,7 +277,7 @@ def kept_of(size, room, need):
 
 
 def stayed(lent, block, asked):
-    """The block is cut, kept or grown where it stands; None where it can't have its need there."""
+    """The block is cut, kept or grown where it stands, and asked for anew; None where it can't have its need there."""
     live, gaps = lent.chunks()
     place = place_of(live, block)
     need = need_of(asked, len(lent.words))
@@ -275,7 +287,7 @@ def stayed(lent, block, asked):
     if need > room:
         return None
     keeps = kept_of(size, room, need)
-    return block_and_grant(start, keeps), [(Lent.become, start, keeps)]
+    return block_and_grant(start, keeps), [(Lent.become, start, keeps, asked)]
 
 
 def resize_rule(lent, block, asked):
@@ -288,7 +300,7 @@ def resize_rule(lent, block, asked):
 
 def move_rule(lent, block, asked):
     """An alloc, a copy of as many words as the shorter block has, and a free; refused as size is, else as alloc is."""
-    (old_granted,), nothing = size_rule(lent, block)
+    (old_asked, old_granted), nothing = size_rule(lent, block)
     (new_block, new_granted), alloc_changes = alloc_rule(lent, asked)
     nothing, free_changes = free_rule(lent, block)
     copy = (Lent.copy, new_block, block, min(old_granted, new_granted))
@@ -301,10 +313,10 @@ def realloc_rule(lent, block, asked):
 
 
 def size_rule(lent, block):
-    """The granted words of a block."""
+    """The words that were asked for when the block was granted last, and its granted words."""
     live, gaps = lent.chunks()
     start, size = live[place_of(live, block)]
-    return (size - HEADER,), []
+    return (lent.words[start + 1] - LIVE_MARK, size - HEADER), []
 
 
 def report_rule(lent):
@@ -353,7 +365,7 @@ def relocate(lent, block, asked):
 
 
 def size(lent, block):
-    return lent.answer(size_rule, 1, block)
+    return lent.answer(size_rule, 2, block)
 
 
 def report(lent):
@@ -361,19 +373,20 @@ def report(lent):
 
 
 def view(lent, block):
-    """The words of the block; none where its size would be refused."""
-    code, (granted,) = size(lent, block)
+    """The words of the block, as many as are granted; none where its size would be refused."""
+    code, (asked, granted) = size(lent, block)
     return lent.words[block:block + granted] if code == DONE else []
 
 
-# The kinds of request in a batch: the call, which of the numbers b and n it takes, and what it answers.
+# The kinds of request in a batch: the call, which of the numbers b and n it takes, and the fields of its record that
+# have its answer; those of a size have the words asked for in the field of the block.
 KINDS = {
     1: (alloc, ["n"], ["block", "granted"]),
     2: (free, ["b"], []),
     3: (realloc, ["b", "n"], ["block", "granted"]),
     4: (resize, ["b", "n"], ["block", "granted"]),
     5: (relocate, ["b", "n"], ["block", "granted"]),
-    6: (size, ["b"], ["granted"]),
+    6: (size, ["b"], ["block", "granted"]),
 }
 
 

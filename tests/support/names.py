@@ -16,9 +16,10 @@ QUALIFIED = re.compile(r"(?<![\w:])(\w+)((?:::\w+)+)")
 # What stands in backticks on one line of a page.
 SPAN = re.compile(r"`([^`]+)`")
 
-# Lines and numbers of the board are digits. A path is one word with a slash in it, or with the ending of a file; a star
-# in it stands for any name. A command begins with the name of a program that is not in the repository.
-DIGITS = re.compile(r"(?=.*\d)[0-9A-F]+")
+# Lines and numbers of the board are digits; eight of them, a word, may all be letters. A path is one word with a slash
+# in it, or with the ending of a file; a star in it stands for any name. A command begins with the name of a program
+# that is not in the repository.
+DIGITS = re.compile(r"(?=.*\d)[0-9A-F]+|[0-9A-F]{8}")
 PATH = re.compile(r"[\w.*+-]+/[\w.*+/-]*|[\w*+-]+\.(?:antt|edit|md|py|rt|txt)")
 COMMAND = re.compile(r"(bash|python3|rt)(?: (.*))?")
 

@@ -37,6 +37,8 @@ SPOILED = [
     (fault("c_cases", "ROVER_OF_REFUSAL"), "code, fields and length of the part: expected"),
     (fault("c_cases", "BEFORE_ROVER"), "c_cases: a call changed a byte before the rover"),
     (fault("c_cases", "BEHIND_ROVER"), "c_cases: a call changed a byte behind the rover"),
+    (fault("c_cases", "GRANTED_TWICE"), "code, fields and length of the part: expected"),
+    (fault("c_cases", "ASKED_TWICE"), "code, fields and length of the part: expected"),
     (fault("c_pictures", "FIELD_OF_REFUSAL"), "code and number answered: expected"),
     (fault("c_pictures", "TEXT_OF_REFUSAL"), "in the text afterwards: byte"),
     (fault("c_pictures", "WORD_OF_REFUSAL"), "in the arena afterwards: word"),

@@ -80,7 +80,7 @@ SPOILED = [
     (strips("block, granted = start + HEADER_WORDS, size", "block, granted = start, size"),
      "of a list: the drawing has"),
     (strips("size - HEADER_WORDS", "size"), "of a list: the drawing has"),
-    (strips("if live else self.gap(start, size, y)", "if name else []"), "of a list: the drawing has"),
+    (strips("if asked else self.gap(start, size, y)", "if name else []"), "of a list: the drawing has"),
     (strips('[f"{name} {granted}", name]', '[f"{name} {size}", name]'), "with the labels ['C 42'], and 'C 40' is due"),
     (strips('[f"{name} {granted}", name]', '[f"{name} {granted}"]'), "with the labels [], and 'A' is due"),
     (strips('f"{size} free"', 'f"{size - HEADER_WORDS} free"'), "with the labels ['996 free'], and '998 free' is due"),

@@ -7,6 +7,7 @@ import struct
 import sys
 
 from . import batches, cases, lines, model, picture_cases
+from .asked_faults import ASKED_FAULTS, CHECK_FAULTS
 from .batch_faults import BATCH_FAULTS
 from .fit_faults import FIT_FAULTS, see_only
 from .picture_faults import PICTURE_FAULTS
@@ -164,7 +165,7 @@ def spoil_shrink(spoil):
 
     def stayed(lent, block, asked):
         outcome = true_stayed(lent, block, asked)
-        (granted,), nothing = model.size_rule(lent, block)
+        (old_asked, granted), nothing = model.size_rule(lent, block)
         end = block + granted
         starts = [start for start, size in lent.chunks()[1]]
         if not outcome or outcome[0][1] >= granted or end not in starts:
@@ -192,13 +193,15 @@ def store(lent, at, words):
 
 
 def believe_words_before():
-    """Believes the two words before b, and not the walk."""
+    """Believes the two words before b where they look like a live chunk's header, and not the walk."""
     true_size = model.size_rule
 
     def size_rule(lent, block):
         lent.chunks()
-        if 4 <= block < len(lent.words) and lent.words[block - 1] == model.LIVE_MARK:
-            return (lent.words[block - 2] - 2,), []
+        if 4 <= block < len(lent.words):
+            size, second = lent.words[block - 2:block]
+            if model.could_ask(second - model.LIVE_MARK, size):
+                return (second - model.LIVE_MARK, size - 2), []
         return true_size(lent, block)
 
     model.size_rule = size_rule
@@ -209,7 +212,7 @@ def clear_swallowed_header():
     true_free = model.free_rule
 
     def clear(lent, block):
-        if lent.words[block - 1] == model.LIVE_MARK:
+        if lent.words[block - 1] >= model.LIVE_MARK:
             lent.words[block - 1] = 0
 
     def free_rule(lent, block):
@@ -222,7 +225,7 @@ def clear_swallowed_header():
 def free_before_move():
     """Frees the old block of a move before its room is sure."""
     def move_rule(lent, block, asked):
-        (granted,), nothing = model.size_rule(lent, block)
+        (old_asked, granted), nothing = model.size_rule(lent, block)
         model.need_of(asked, len(lent.words))
         old_words = lent.words[block:block + granted]
         model.free(lent, block)
@@ -235,7 +238,7 @@ def free_before_move():
 def copy_in_move(count_of):
     """Copies as many words in a move as `count_of` makes of the old granted words, the new ones and those asked for."""
     def move_rule(lent, block, asked):
-        (granted,), nothing = model.size_rule(lent, block)
+        (old_asked, granted), nothing = model.size_rule(lent, block)
         (new_block, new_granted), alloc_changes = model.alloc_rule(lent, asked)
         nothing, free_changes = model.free_rule(lent, block)
         count = min(count_of(granted, new_granted, asked), len(lent.words) - new_block)
@@ -440,8 +443,9 @@ def batch_replies():
 
 def main(name, fault=None):
     """Answers as the program would, but for the fault."""
-    own_faults = {"picture_cases": PICTURE_FAULTS, "batch_cases": BATCH_FAULTS}
-    own_faults.get(name, {**RULE_FAULTS, **REPORT_FAULTS, **FIT_FAULTS}).get(fault, lambda: None)()
+    own_faults = {"picture_cases": {**PICTURE_FAULTS, **CHECK_FAULTS}, "batch_cases": BATCH_FAULTS}
+    calls_faults = {**RULE_FAULTS, **REPORT_FAULTS, **FIT_FAULTS, **ASKED_FAULTS}
+    own_faults.get(name, calls_faults).get(fault, lambda: None)()
     held_back = b""
     replies = {"board": lambda: board_replies(fault), "cases": cases_replies, "picture_cases": picture_replies,
                "batch_cases": batch_replies}

@@ -8,6 +8,7 @@ import tempfile
 from collections import namedtuple
 
 from . import programs
+from .asked_faults import ASKED_FAULTS, CHECK_FAULTS
 from .batch_faults import BATCH_FAULTS
 from .driver import Difference
 from .fit_faults import FIT_FAULTS
@@ -32,22 +33,28 @@ ANOTHER_COUNT = ["lastlink", "last", "header"]
 SURE_REFUSED = ["exact", "hoards", "needs", "skips", "small", "inexact", "noround", "notlowest", "atend", "aboveend",
                 "elsewhere", "never"]
 
+# Some of what it can do wrong with the words that were asked for: in the check, and in what is stored.
+CHECKED = ["nonepasses", "morepasses", "notone", "notall"]
+STORED = ["exactkeeps", "cutkeeps", "growthkeeps", "movekeeps", "storesneed", "storeseven", "storesgranted"]
+
 # A driver, how much it compares here, a program, and the faults of a stand-in for it that the driver has to see.
 Trial = namedtuple("Trial", "driver count program faults")
 
-# The driver of the document's rows runs both programs.
-BOTH = "test_document_rows"
+# The drivers that run more than one program, and which.
+DOCUMENT, ASKED_FOR = "test_document_rows", "test_asked"
+SEVERAL = {DOCUMENT: ("board", "cases"), ASKED_FOR: ("cases", "picture_cases", "batch_cases")}
 
 # The trials, by what the drivers compare: rows by hand, long runs of lines, calls on many arenas, single ones or in
-# runs, pictures, batches of plain words. (Batches from C are tried on spoiled copies.)
+# runs, the words asked for, pictures, batches of plain words. (Batches from C are tried on spoiled copies.)
 ROWS = [
-    Trial(BOTH, 1, "board", ["digit", "missing", "extra", "tail", "four", "six", "alloc", "small", "skips",
-                              *ANOTHER_COUNT]),
-    Trial(BOTH, 1, "cases", ["word", "missing", "extra", *ANOTHER_COUNT]),
+    Trial(DOCUMENT, 1, "board", ["digit", "missing", "extra", "tail", "four", "six", "alloc", "small", "skips",
+                                 *ANOTHER_COUNT]),
+    Trial(DOCUMENT, 1, "cases", ["word", "missing", "extra", "storesneed", "movekeeps", *ANOTHER_COUNT]),
     Trial("test_pages", 1, "board", ["digit", "missing", "tail", "four", *ANOTHER_COUNT]),
     Trial("test_call_rows", 1, "cases", ["word", "missing", "extra", "believe", "clear", "byte", "manylinks",
-                                         *ANOTHER_COUNT, *OVER, *ANOTHER_LENGTH]),
-    Trial("test_fit_rows", 1, "cases", ["word", "missing", "extra", "best", "next", *FIT_FAULTS]),
+                                         *ANOTHER_COUNT, *OVER, *ANOTHER_LENGTH, *STORED]),
+    Trial("test_fit_rows", 1, "cases", ["word", "missing", "extra", "best", "next", "storesneed", "bestgranted",
+                                        "nextgranted", *FIT_FAULTS]),
 ]
 LINES = [
     Trial("test_random_lines", 3000, "board", ["digit", "missing", "extra", "link", "early", "never", LATE, *OVER,
@@ -56,19 +63,25 @@ LINES = [
 ]
 ARENAS = [
     Trial("test_small_arenas", 10000, "cases", ["word", "missing", "extra", "clear", "atend", *ANOTHER_COUNT, *OVER,
-                                                *ANOTHER_LENGTH, *ANOTHER_FIT]),
+                                                *ANOTHER_LENGTH, *ANOTHER_FIT, "exactkeeps", "grantedtwice"]),
     Trial("test_damaged_arenas", 3000, "cases", ["word", "missing", "extra", "believe", "clear", "manylinks", "best",
                                                  "next", "lowbits", "shut", "nextgate", "nextlinks", *ANOTHER_COUNT,
-                                                 *OVER, *ANOTHER_LENGTH, *ANOTHER_FIT]),
-    Trial("test_fit_runs", 2000, "cases", ["word", "togranted", "ownrover", "movebest", *ANOTHER_FIT]),
+                                                 *OVER, *ANOTHER_LENGTH, *ANOTHER_FIT, *CHECKED, "onemore", "oldmark",
+                                                 "exactkeeps", "grantedtwice", "askedtwice", "viewsasked"]),
+    Trial("test_fit_runs", 2000, "cases", ["word", "togranted", "ownrover", "movebest", "movekeeps", *ANOTHER_FIT]),
     Trial("test_promise", 900, "cases", ["word", "missing", "ten", "lastgap", "lastblock", *ANOTHER_COUNT,
                                          *SURE_REFUSED]),
     Trial("test_combs", 1, "cases", ["word", "exact", "hoards", "shares", "lowestfits", "keeps", "manylinks",
                                      "bestlinks", "nextlinks"]),
     Trial("test_plans", 2000, "cases", ["word", "ten", "hoards", "needs", "elsewhere", "never"]),
 ]
+ASKED = [
+    Trial(ASKED_FOR, 600, "cases", ["word", "missing", "clear", *ASKED_FAULTS]),
+    Trial(ASKED_FOR, 600, "picture_cases", ["word", "missing", *CHECK_FAULTS]),
+    Trial(ASKED_FOR, 600, "batch_cases", ["word", "missing", "unasked", "askedtwice", "grantedtwice", "blockasked"]),
+]
 BATCHES = [Trial("test_batch", 12, "batch_cases", ["word", "missing", *BATCH_FAULTS])]
-PICTURES = [Trial("test_pictures", 300, "picture_cases", ["word", "missing", "extra", *PICTURE_FAULTS])]
+PICTURES = [Trial("test_pictures", 300, "picture_cases", ["word", "missing", "extra", *CHECKED, *PICTURE_FAULTS])]
 
 
 def sees_difference(trial, fault, seed, folder):
@@ -76,11 +89,11 @@ def sees_difference(trial, fault, seed, folder):
     command = [sys.executable, os.path.join(programs.TESTS, trial.driver + ".py")]
     command += ["--seed", str(seed), "--count", str(trial.count), "--keep", folder]
     command += ["--patience", "0.5" if fault == LATE else "10"]
-    both = trial.driver == BOTH
-    for program in ("board", "cases") if both else (trial.program,):
+    several = SEVERAL.get(trial.driver)
+    for program in several or (trial.program,):
         words = [sys.executable, "-m", "support.stand_in", program]
         words += [fault] if fault and program == trial.program else []
-        command += ["--program-" + program if both else "--program", shlex.join(words)]
+        command += ["--program-" + program if several else "--program", shlex.join(words)]
     ended = subprocess.run(command, stdout=subprocess.PIPE, env=dict(os.environ, PYTHONPATH=programs.TESTS))
     if b"the program ended with status" in ended.stdout:
         return None

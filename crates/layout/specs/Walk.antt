@@ -42,8 +42,8 @@ isLive second = leb liveMark second
 abbrev pub askedIn : ℕ → ℕ
 askedIn second = second - liveMark
 
--- a second word that may stand in a chunk of `s` words: if it says live, that its block holds what was asked for, and
--- that this was something
+-- a second word that may stand in a chunk of `s` words: one that says live asks for one word or more, and for no more
+-- than the block has
 abbrev pub secondFits : ℕ → ℕ → Bool
 secondFits s second = cond (isLive second) (leb 1 (askedIn second) && leb (askedIn second) (s - headerWords)) true
 

@@ -30,7 +30,7 @@ use Rattle.ledger.specs.Ledger.{Entry, enter, strike, told}
 use Rattle.ledger.specs.Gaps.{gaps}
 use Rattle.ledger.specs.Runs.{State, Allowed, answerTo, after, Run, begun, arrived, next}
 use Rattle.ledger.specs.BatchRuns.{ledgerFrom}
-use Rattle.ledger.specs.Holders.{numberAfter, Ended, Cut, StoredLast, just, pictured, still, AskedLast, just-asked, just-pictured}
+use Rattle.ledger.specs.Holders.{numberAfter, Ended, Cut, StoredLast, just, pictured, still, AskedLast, just-asked, just-pictured, still-asked}
 
 -- ---- how a run is played
 
@@ -432,17 +432,28 @@ halves-answers = refl
 
 -- ---- what was asked for last, and what size answers
 
--- block 18 of the move was asked for with 6 words, and block 30 is still that of 2
+-- block 18 of the move was asked for with 6 words
 pub six-asked : AskedLast ours 32 movedState 18 6
 unfolding regrantBy arenaGate requestGate sound chunksOf walked walkFrom walk meet lowest joined copied written write header enter strike
 six-asked = just-asked stored (call (realloc 26 6)) tt 6 (inr (26, (refl, refl)))
+
+-- and block 30 with 2, before all else
+pub two-asked : AskedLast ours 32 movedState 30 2
+unfolding startOn allocBy regrantBy arenaGate requestGate sound chunksOf walked walkFrom walk meet lowest joined copied written write header enter
+    strike
+two-asked =
+    let first : AskedLast ours 32 _ 30 2 = just-asked freshRun (call (alloc first-fit 2)) tt 2 (inl (refl, refl)) in
+    let second = still-asked first (call (alloc first-fit 2)) tt (λ ended. ⊎-elim (λ is. clash cc) (λ is. clash cc) (ended .1)) (λ v anew. clash cc) in
+    let five = still-asked second (store 26 0 5) five-allowed (λ ended. ⊎-elim (λ is. clash cc) (λ is. clash cc) (ended .1)) (λ v anew. clash cc) in
+    let seven = still-asked five (store 26 1 7) seven-allowed (λ ended. ⊎-elim (λ is. clash cc) (λ is. clash cc) (ended .1)) (λ v anew. clash cc) in
+    still-asked seven (call (realloc 26 6)) tt (λ ended. ⊎-elim (λ is. clash cc) (λ is. clash cc) (ended .1)) (λ v anew. clash cc)
 
 -- the resize asked for 3
 pub three-asked : AskedLast ours 32 grownState 14 3
 unfolding regrantBy arenaGate requestGate sound chunksOf walked walkFrom walk meet lowest joined written write header enter strike
 three-asked = just-asked shortened (call (resize 14 3)) tt 3 (inr (14, (refl, refl)))
 
--- of 4 words, and block 30 has 2 that were asked for
+-- block 14 has 4 words, of which 3 were asked for; both words of block 30 were
 pub sizes-answered : (ours (size 14) (grownState .words) .answer ≡ success (3 ∷ 4 ∷ [])) × (ours (size 30) (grownState .words) .answer ≡ success (2 ∷ 2 ∷ []))
 unfolding sizeOn arenaGate sound chunksOf walked walkFrom walk meet lowest
 sizes-answered = (refl, refl)

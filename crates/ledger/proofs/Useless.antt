@@ -515,24 +515,25 @@ loses-two-words shrinks =
 abbrev pub TellsGrantedTwice : Library → Type 0
 TellsGrantedTwice library = (b : ℕ) (a : List ℕ) → let told-of = library (size b) a .answer .values in getD told-of 0 0 ≡ grantedField told-of
 
--- if it keeps the room rule and knows its arena, it does not tell what was asked for: for 1 word, 2 or more are granted
-pub tells-granted-twice : (library : Library) → TellsGrantedTwice library → RoomForAlloc library (alloc first-fit) → Known library
-    → SizeTellsAsked library → ⊥
-tells-granted-twice library twice room known tells =
+-- if it keeps the room rule, it does not know its arena: for 1 word, 2 or more are granted
+pub tells-granted-twice : (library : Library) → TellsGrantedTwice library → RoomForAlloc library (alloc first-fit) → Known library → ⊥
+tells-granted-twice library twice room known =
     let a = library start (replicate 6 0) .words in
     let o = has-once first-fit library room (replicate 6 0) 1 refl (omega arith) in
     let e : Entry = entryFor 1 (library (alloc first-fit 1) a .answer) in
     let words = library (alloc first-fit 1) a .words in
-    let last = just-asked (o .started) (call (alloc first-fit 1)) tt 1 (inl (o .done, refl)) in
-    let (granted, tells-one) = tells 6 _ (e .block) 1 last in
-    let asked : getD (library (size (e .block)) words .answer .values) 0 0 ≡ 1 = ap (λ (x : Answer). getD (x .values) 0 0) tells-one in
-    let has : grantedField (library (size (e .block)) words .answer .values) ≡ e .granted =
-    ap (λ (x : Answer). grantedField (x .values)) (known 6 _ (o .once) .size-listed e (inl refl)) in
+    let sized = known 6 _ (o .once) .size-listed e (inl refl) in
+    let asked : getD (library (size (e .block)) words .answer .values) 0 0 ≡ 1 = ap (λ (x : Answer). getD (x .values) 0 0) sized in
+    let has : grantedField (library (size (e .block)) words .answer .values) ≡ e .granted = ap (λ (x : Answer). grantedField (x .values)) sized in
     omega (arith, asked, has, twice (e .block) words, known 6 _ (o .started) .alloc-grants first-fit 1 (o .done))
 
--- a resize answers as ours does, and writes nothing
+-- a resize that keeps the length answers as ours does, and writes nothing
 abbrev pub keepsOldNumber : Library
-keepsOldNumber = withResize (λ b w a. record { answer = ours (resize b w) a .answer; words = a })
+keepsOldNumber =
+    withResize (λ b w a.
+    let resized = ours (resize b w) a in
+    let had = grantedField (ours (size b) a .answer .values) in
+    cond (eqb (told (resized .answer) .granted) had) (record { answer = resized .answer; words = a }) resized)
 
 -- it does not tell what was asked for last: of 6 words, block 4 was asked for with 2 words, and is resized to 1
 pub keeps-old-number : SizeTellsAsked keepsOldNumber → ⊥

@@ -36,7 +36,7 @@ unfoldable pub strike : ℕ → Ledger → Ledger
 strike b [] = []
 strike b (f ∷ fs) = cond (eqb (f .block) b) (strike b fs) (f ∷ strike b fs)
 
--- the live chunk of `s` words that starts at word `c`
+-- the live chunk of `s` words that starts at word `c`, for which `asked` words were asked
 abbrev pub entryAt : ℕ → ℕ → ℕ → Entry
 entryAt c s asked = record { block = c + headerWords; granted = s - headerWords; asked = asked }
 

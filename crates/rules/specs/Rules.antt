@@ -42,7 +42,7 @@ abbrev pub released : Spot → List Chunk
 released nowhere = []
 released (at pre k post) = joined (pre ++ free (size k) ∷ post)
 
--- the words that were asked for, of the chunk at a spot: none where it is free
+-- the words that were asked for, of a chunk (none of a free one), and of the chunk at a spot
 abbrev pub askedOf : Chunk → ℕ
 askedOf (free s) = 0
 askedOf (live s asked) = asked

@@ -15,8 +15,8 @@ ghost use Rattle.layout.specs.Walk.{secondFits, walkFrom};
 ghost use Rattle.layout.specs.Reasons.{arenaGate};
 ghost use Rattle.walk.specs.Steps.{sizeAt, metBy, PastLive, chunkCount, faultOf};
 
-// Whether a chunk of `size` words may have this second word: one that says live says that the block holds what was
-// asked for, and that this was something.
+// Whether a chunk of `size` words may have this second word: one that says live asks for one word or more, and for no
+// more than the block has.
 fn second_fits(size: usize, second: u32) -> bool
     ensures { λ r. ⌜ r ≡ secondFits size second ⌝ }
 {

@@ -1,4 +1,4 @@
--- `stores::put_live` meets its contract: the header that `put` stores, with the mark of a live chunk.
+-- `stores::put_live` meets its contract: the header that `put` stores, with a live chunk's second word.
 use borrow.Author.Needs.{needs}
 use Rattle.stores.proofs.put_live.Statement.{statement}
 use Rattle.stores.proofs.put_live.Tie as tie
