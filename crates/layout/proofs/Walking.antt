@@ -9,7 +9,7 @@ use lib.Dec.{leb, eqb}
 use borrow.Author.Tests.{leb-true}
 use Rattle.layout.specs.Numbers.{leastSize}
 use Rattle.layout.specs.Chunks.{Chunk, free, live, size}
-use Rattle.layout.specs.Walk.{Met, end, chunk, nothing, Walked, broken, whole, withChunk, sizeFits, isLive, askedIn, secondFits, headerFits}
+use Rattle.layout.specs.Walk.{Met, end, chunk, nothing, broken, whole, withChunk, sizeFits, isLive, askedIn, secondFits, headerFits}
 use Rattle.layout.specs.Walk.{meet, walk, walkFrom}
 use Rattle.layout.proofs.Bools.{both}
 

@@ -12,7 +12,6 @@ use borrow.Author.Tests.{leb-true, leb-false}
 use Rattle.layout.specs.Numbers.{controlWords, leastSize, wordValues, lawful, need}
 use Rattle.layout.specs.Chunks.{Chunk, free, live, total, written}
 use Rattle.layout.specs.Walk.{sound, chunksOf}
-use Rattle.layout.specs.Reasons.{number}
 use Rattle.layout.specs.declared.Reason.the-variants.{NoRoom}
 use Rattle.layout.proofs.Bools.{lawful-bounds}
 use Rattle.layout.proofs.Holds.{Sizes, Asks, Spaced, Lawful}

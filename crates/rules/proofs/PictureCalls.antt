@@ -1,11 +1,11 @@
 -- What comes of writing a picture and of reading one, case by case; and that one undoes the other.
-use Prim.Native.Nat.{ℕ, _+_, _≤_}
+use Prim.Native.Nat.{ℕ, _+_, _-_, _≤_}
 use mathlib.Core.Path.{_≡_, refl, sym, ap, _∙_}
 use mathlib.Core.Logic.{_≢_}
 use mathlib.Core.Bool.{Bool, true, false, cond}
 use mathlib.Core.List.{List, [], _∷_, _++_, map}
 use native.Mathlib.Omega.{arith}
-use lib.ListN.{length, take, drop, length-append, length-drop, length-map}
+use lib.ListN.{length, getD, take, drop, length-append, length-drop, length-map}
 use lib.Seq.{take-append-seam}
 use lib.Dec.{leb, eqb}
 use borrow.Author.Tests.{leb-true, leb-false, le-leb, lt-leb, eqb-true, eqb-false, eq-eqb, ne-eqb}
@@ -28,6 +28,7 @@ use Rattle.rules.specs.Causes.{WriteRefused, ReadRefused, no-length, uns
 use Rattle.rules.proofs.Gates.{Checked, unlawful, damaged, whole, checked, unlawful-gate, damaged-gate, sound-gate}
 use Rattle.rules.proofs.CallCases.{Case, refuses, does, done-does}
 use Rattle.rules.proofs.Keeping.{Kept}
+use Rattle.rules.proofs.Starting.{start-again, start-sound}
 use Rattle.rules.proofs.Saying.{Saying, says, nothing, saying, said-says, picture-says}
 
 -- ---- to write one
@@ -153,6 +154,13 @@ module _ (text a : List ℕ) where
   pub older-refused : (ws : List ℕ) (ks : List Chunk) → Says text ws → length ws ≡ length a → lawful (length ws) ≡ true
       → OlderHeads ws firstChunk ks → Sizes ks → firstChunk + total ks ≡ length ws → SomeLive ks → readOn text a .answer .code ≡ number Damaged
   older-refused ws ks s e l heads sizes fills some = read-gives Damaged (unsound ws s e l (older-damaged ws ks heads sizes fills some))
+
+  -- one with no live chunk has, then and now, the four words of a start, and is read
+  pub older-read : (ws : List ℕ) → Says text ws → length ws ≡ length a → lawful (length ws) ≡ true
+      → getD ws 0 0 ≡ length ws → getD ws 1 0 ≡ 2 → getD ws 2 0 ≡ length ws - 2 → getD ws 3 0 ≡ 0
+      → readOn text a ≡ record { answer = success []; words = ws }
+  older-read ws s e l n first all next =
+      reads-sound ws s e (ap sound (sym (start-again ws l n first all next)) ∙ start-sound ws l)
 
 -- ---- one undoes the other
 
