@@ -13,6 +13,7 @@ from support.asking import WANTED, Asking, compare_turns
 from support.cases import ALLOC, ALLOC_NEXT, FITS, FREE, REALLOC, RELOCATE, REPORT, RESIZE, SIZE, TOGETHER, VIEW
 from support.cases import VIEW_MUT, Case
 from support.comparing import run_rows
+from support.older import BARE_SHOWN, BARE_WORDS, HELD_SHOWN, HELD_WORDS, OLD_MARK
 from support.picture_cases import CHECK, READ, WRITE
 from test_batch import row
 from test_call_rows import NO_ARENAS, counted, done, refused, words
@@ -26,8 +27,8 @@ CALLS_IN_TURN = 10
 # Lengths of the arenas of runs, in turn; the first holds a single block.
 LENGTHS = [6, 12, 26, 40, 64, 100, 150, 200, 250, 300]
 
-# The number that live chunks have in their second words, here by itself, and what they had before item 9.
-MARK, OLD_MARK = 2147483648, 4294967295
+# The number that live chunks have in their second words, here by itself.
+MARK = 2147483648
 
 # The sizes of chunks whose second words are tried, and what lies below and above a live one, and a free one: a minus is
 # for a free chunk.
@@ -271,25 +272,17 @@ def judged_picture_rows():
         yield from picture_rows(arena, model.DAMAGED)
 
 
-# Pictures of before item 9, written out by hand: of a block between two free chunks, and of an arena without blocks in
-# which the header of one that was freed lies about. And the first as it is written now, where two words were asked for.
-OLD_SHOWN = (b"06000E\n"
-             b"0700000000000E00000002000000040000000A000003EC000003ED00000004FFFFFFFF\n"
-             b"070008000003F0000003F10000000400000000000003F4000003F5\n")
-NEW_SHOWN = OLD_SHOWN.replace(b"FFFFFFFF", b"80000002")
-NEW_WORDS = [14, 2, 4, 10, 1004, 1005, 4, MARK + 2, 1008, 1009, 4, 0, 1012, 1013]
-BARE_SHOWN = (b"06000A\n"
-              b"0700000000000A000000020000000800000000000003EC000003ED00000004FFFFFFFF\n"
-              b"070008000003F0000003F1\n")
-BARE_WORDS = [10, 2, 8, 0, 1004, 1005, 4, OLD_MARK, 1008, 1009]
+# The older picture with a block, and its words, as they are now where two words were asked for.
+NEW_SHOWN = HELD_SHOWN.replace(b"FFFFFFFF", b"80000002")
+NEW_WORDS = [MARK + 2 if word == OLD_MARK else word for word in HELD_WORDS]
 
 
 def old_picture_rows():
     """An old picture with a live chunk is refused, as bytes too; without one it is read, and written as it was."""
     lent = [7] * len(NEW_WORDS)
-    yield picture_cases.Case(READ, OLD_SHOWN, lent), pictures.Answer(2, 0, OLD_SHOWN, lent)
+    yield picture_cases.Case(READ, HELD_SHOWN, lent), pictures.Answer(2, 0, HELD_SHOWN, lent)
     yield picture_cases.Case(READ, NEW_SHOWN, lent), pictures.Answer(0, 0, NEW_SHOWN, NEW_WORDS)
-    yield from picture_rows(with_word(NEW_WORDS, 7, OLD_MARK), model.DAMAGED)
+    yield from picture_rows(HELD_WORDS, model.DAMAGED)
     lent = [7] * len(BARE_WORDS)
     yield picture_cases.Case(READ, BARE_SHOWN, lent), pictures.Answer(0, 0, BARE_SHOWN, BARE_WORDS)
     room = b"." * len(BARE_SHOWN)

@@ -6,7 +6,7 @@ import tempfile
 from collections import Counter, namedtuple
 from random import Random
 
-from support import arenas, c_programs, cases, driver, model, pictures, programs, strange_pictures
+from support import arenas, c_programs, cases, driver, model, older, pictures, programs, strange_pictures
 from support.telling import shown
 
 FILES = 50
@@ -134,6 +134,15 @@ def compare_files(command, folder, random, count):
     return met
 
 
+def compare_older(command, folder):
+    """Files of before item 9, of bytes and of pictures: with a block and without; gives how many were tried."""
+    rows = [(older.HELD_WORDS, older.HELD_SHOWN, model.DAMAGED), (older.BARE_WORDS, older.BARE_SHOWN, model.DONE)]
+    for words, text, code in rows:
+        compare_file(command, folder, [], cases.packed(words), (code, len(words)))
+        compare_file(command, folder, ["--picture"], text, (code, len(words)))
+    return 2 * len(rows)
+
+
 def compare_input(command):
     """A file called - is standard input; gives how many were tried."""
     content = cases.packed(arenas.full_arena(False).words)
@@ -178,10 +187,11 @@ def compare(chosen):
         return f"nothing was compared{c_programs.skipped([str(told)])}"
     with tempfile.TemporaryDirectory() as folder:
         others = compare_complaints(command, folder) + compare_unwritable(command) + compare_input(script)
+        by_hand = compare_older(command, folder)
         met = compare_files(command, folder, Random(chosen.seed), chosen.count)
     if chosen.count >= FILES:
         driver.check_met(met, WANTED, 3, "files")
-    told = f"{sum(met.values())} files of bytes and of pictures compared"
+    told = f"{sum(met.values())} files of bytes and of pictures compared, {by_hand} older ones by hand"
     return f"{told}, and {others} other words and inputs: what is printed, and the status"
 
 
