@@ -1,4 +1,6 @@
 // What the calls answer, and the same in the documents' numbers.
+#![tactic(auto)]
+
 ghost use Rattle.std.specs.Prelude.{◌≡◌};
 ghost use Rattle.answers.specs.Readings.{finish_numbers, granted_numbers, sized_numbers, reported_numbers, written_numbers};
 ghost use Rattle.answers.specs.Padded.{padded, padded_refusal};

@@ -1,5 +1,7 @@
 // An allocator over one lent arena of 32-bit words. A call asks nothing of its caller: it is done as the rules say, or
 // it is refused with a reason and changes nothing.
+#![tactic(auto)]
+
 ghost use Rattle.rules.specs.Answers.{Gives};
 ghost use Rattle.rules.specs.Calls.{start_on, alloc_on, alloc_best_on, Roves, free_on, resize_on, relocate_on, realloc_on, size_on, report_on};
 ghost use Rattle.answers.specs.Readings.{finish_numbers, granted_numbers, sized_numbers, reported_numbers};

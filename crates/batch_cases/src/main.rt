@@ -1,6 +1,8 @@
 // Runs batches from standard input until it ends, and answers each with all that came of it, for tests to compare.
 // A case is the words: how many words the records have, how many words the arena has; then the records' words, and the
 // arena's. A reply is the records' words and the arena's words after the batch.
+#![tactic(auto)]
+
 ghost use Rattle.batch_cases.specs.BatchRooms.{BatchRooms};
 
 use batch::words;

@@ -1,5 +1,7 @@
 // The board's program: request lines on standard input, replies on standard output, as soon as each piece of input is
 // answered.
+#![tactic(auto)]
+
 ghost use Rattle.std.specs.Prelude.{◌*◌, ◌≤◌, length};
 ghost use Rattle.replies.specs.Boards.{longest_reply};
 ghost use Rattle.lines.specs.Pieces.{board_of, ending, HearsAll};

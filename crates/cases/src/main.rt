@@ -3,6 +3,8 @@
 // A case is the words: call, b, n, how many words the arena has, and the arena's words.
 // A reply is the words: code, four fields, how many words were handed back, those words as they were handed back, and
 // the arena's words after the call.
+#![tactic(auto)]
+
 ghost use Rattle.std.specs.Prelude.{◌≤◌, length};
 ghost use Rattle.cases.specs.Buffers.{Buffers};
 

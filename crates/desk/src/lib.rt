@@ -1,4 +1,6 @@
 // The check for the desk tool, which hands an arena over as bytes.
+#![tactic(auto)]
+
 ghost use Rattle.std.specs.Prelude.{◌≡◌, ◌*◌, length};
 ghost use Rattle.layout.specs.Reasons.{arena_gate};
 ghost use Rattle.spelling.specs.Words.{words_of};

@@ -1,4 +1,6 @@
 // Hexadecimal digits as bytes: what a byte is worth, numbers found in a text, and numbers put into a lent one.
+#![tactic(auto)]
+
 ghost use Rattle.std.specs.Prelude.{◌≡◌, ◌+◌, ◌≤◌, ◌<◌, length};
 ghost use Rattle.digits.specs.Digits.{between, two_digits, four_digits, eight_digits};
 ghost use Rattle.digits.specs.Digits.{worth as worthOf, upper as upperOf, glyph as glyphOf};

@@ -1,4 +1,6 @@
 // The lines of a picture: how long they are, how they are put into a lent text, and how they are found in one.
+#![tactic(auto)]
+
 ghost use Rattle.std.specs.Prelude.{◌≡◌, map, ◌+◌, ◌*◌, ◌≤◌, ◌<◌, length, drop};
 ghost use Rattle.digits.specs.Digits.{upper, four_digit_values, eight_digits, in_digits};
 ghost use Rattle.digits.specs.Putting.{Puts};

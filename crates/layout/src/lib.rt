@@ -1,4 +1,6 @@
 // The layout of an arena: which words are lawful, what stands in them, and what a request needs.
+#![tactic(auto)]
+
 ghost use Rattle.std.specs.Prelude.{◌≡◌, true, ◌+◌, ◌-◌, ◌≤◌, min};
 ghost use Rattle.layout.specs.Numbers.{lawful, greatest_length, header_words, live_mark};
 ghost use Rattle.layout.specs.Numbers.{need as need_of};
@@ -132,6 +134,7 @@ pub fn asked_in(second: u32) -> u32
 }
 
 // The reasons for which a request of `n` words is refused in an arena of `size` words: Zero, then TooLarge.
+#[tactic(auto, unfolding(crate::specs::Reasons::request_gate))]
 pub fn check_request(size: usize, n: usize) -> Gate
     requires { lawful size ≡ true }
     ensures { result ≡ request_gate size n }

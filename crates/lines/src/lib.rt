@@ -1,4 +1,6 @@
 // Request lines: a text is heard piece by piece, and each line of it is answered by a call on the lent words.
+#![tactic(auto)]
+
 ghost use Rattle.std.specs.Prelude.{◌≡◌};
 ghost use Rattle.replies.specs.Boards.{lending};
 ghost use Rattle.lines.specs.Pieces.{nothing_heard, ending, board_of, answerable, HearsAll};

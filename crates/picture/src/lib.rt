@@ -1,5 +1,7 @@
 // A picture of an arena: written into a lent text, and read back from one. A call asks nothing of its caller: it is
 // done as the rules say, or it is refused with a reason, and then neither lent slice has changed.
+#![tactic(auto)]
+
 pub use answers::{Finish, Written};
 use layout::{Gate, Reason};
 

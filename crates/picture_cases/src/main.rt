@@ -3,6 +3,8 @@
 // A case is the words: call, how many bytes the text has, how many words the arena has; then the text's bytes, and the
 // arena's words.
 // A reply is the words: code, and the one field or 0; then the text's bytes and the arena's words after the call.
+#![tactic(auto)]
+
 ghost use Rattle.picture_cases.specs.CaseRooms.{CaseRooms};
 
 use answers::Numbers;

@@ -1,4 +1,6 @@
 // A request answered: the call on the lent words, and its reply (`reply`).
+#![tactic(auto)]
+
 mod reply;
 
 ghost use Rattle.requests.specs.declared.Request.TheVariants.{Start, Alloc, Free, Realloc, Report, Malformed};

@@ -1,4 +1,6 @@
 // Request lines: the place in one that is not at its end yet, and what a line that ends there asks for.
+#![tactic(auto)]
+
 ghost use Rattle.std.specs.Prelude.{◌≡◌, cond, eqb};
 ghost use Rattle.requests.specs.LinePlaces.{at_start, request_at, one_field};
 ghost use Rattle.requests.specs.LinePlaces.{onward as onwardFrom, spoilt as spoiltPlace};

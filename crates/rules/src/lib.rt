@@ -1,5 +1,6 @@
 // The rules of the calls, and every theorem that follows from them. Statements and proofs, and the records that callers
 // lend, those of a batch and next fit's rover: this crate has no function.
+#![tactic(auto)]
 
 // One request of a batch: what is asked, a kind and two numbers, and what is answered, which is filled in.
 #[repr(C)]

@@ -1,4 +1,6 @@
 // Words handed over: as the four bytes that spell each, the lowest first, and as they are.
+#![tactic(auto)]
+
 ghost use Rattle.std.specs.Prelude.{◌≡◌, ◌+◌, ◌*◌, ◌≤◌, ◌<◌, length};
 ghost use Rattle.std.proofs.lemmas.List.Edits.{sets};
 ghost use Rattle.spelling.specs.Words.{word_of, four_of, words_of, bytes_of};

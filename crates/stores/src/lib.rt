@@ -1,5 +1,7 @@
 // What changes the words of an arena: the stores themselves, the need that is taken from a free chunk (`taking`), and
 // the chunk that is freed (`release`).
+#![tactic(auto)]
+
 pub mod release;
 pub mod taking;
 

@@ -1,5 +1,7 @@
 // What a call asks for, once nothing stands in its way, and what it answers. The reasons are looked for in the order of
 // their numbers.
+#![tactic(auto)]
+
 ghost use Rattle.std.specs.Prelude.{◌≡◌, true};
 ghost use Rattle.layout.specs.Numbers.{lawful};
 ghost use Rattle.ways.specs.Ways.{Picked};

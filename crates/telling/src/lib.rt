@@ -1,5 +1,7 @@
 // What the functions for C tell their callers: the code is handed back, and the fields of the answer go into a lent
 // array. Next fit, which tells of its rover too, is called here as well, so that the function over it need only store.
+#![tactic(auto)]
+
 ghost use Rattle.std.specs.Prelude.{◌≡◌, [], ◌∷◌, get_or};
 ghost use Rattle.rules.specs.Calls.{Roves};
 ghost use Rattle.answers.specs.Readings.{finish_numbers, granted_numbers, sized_numbers, reported_numbers, written_numbers};

@@ -1,4 +1,6 @@
 // The check walk: whether words are a sound arena, and how many chunks it has.
+#![tactic(auto)]
+
 ghost use Rattle.std.specs.Prelude.{◌≡◌, true, false, cond, ◌≤◌, ◌<◌, length, eqb};
 ghost use Rattle.layout.specs.Walk.{second_fits, walk_from};
 ghost use Rattle.layout.specs.Reasons.{arena_gate};
@@ -19,6 +21,7 @@ fn second_fits(size: usize, second: u32) -> bool
 }
 
 // The size of the chunk that may stand at word `c`, or 0 where none can.
+#[tactic(auto, unfolding(crate::specs::Steps::size_at))]
 fn size_at(a: &[u32], c: usize) -> usize
     requires { c < length a.now }
     ensures { result ≡ size_at a.now c }

@@ -1,5 +1,7 @@
 // The ways to grant: a new block (`allot`), and a block anew (`regrant_at`), where it stands (`staying`) or elsewhere
 // (`moving`).
+#![tactic(auto)]
+
 pub mod moving;
 pub mod staying;
 

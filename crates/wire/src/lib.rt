@@ -1,4 +1,6 @@
 // Words from standard input and to standard output, as bytes, for the programs that the tests run.
+#![tactic(auto)]
+
 ghost use Rattle.std.specs.Prelude.{◌*◌, ◌≤◌, length};
 
 use libc::{STDIN_FILENO, STDOUT_FILENO};

@@ -1,6 +1,8 @@
 // The calls for C: each returns its code, and stores the fields of its answer into a lent array; `zv_batch` stores both
 // into its records. The header is include/zandervlecht.h. A view needs no function: it is the words from the block's
 // number on, as many as `zv_size` answers granted.
+#![tactic(auto)]
+
 ghost use Rattle.std.specs.Prelude.{◌≡◌, []};
 ghost use Rattle.rules.specs.Answers.{Gives};
 ghost use Rattle.rules.specs.Calls.{start_on, alloc_on, alloc_best_on, Roves, free_on, resize_on, relocate_on, realloc_on, size_on, report_on, read_on};
