@@ -59,10 +59,12 @@ def declared():
 
 
 def camel_words():
-    """The words in camel case that begin small, of specs/ and proofs/."""
+    """The words in camel case that begin small, of specs/ and proofs/ and of the imports of src/."""
     words = set()
     for path in glob.glob("crates/**/*.antt", recursive=True):
         words |= set(WORD.findall(re.sub(r"--[^\n]*", "", read(path))))
+    for path in glob.glob("crates/*/src/**/*.rt", recursive=True):
+        words |= {word for line in re.findall(r"^ghost use [^\n]*", read(path), re.M) for word in re.findall(r"\bas (\w+)", line)}
     return {word for word in words if re.fullmatch(r"[a-z][\w']*[A-Z][\w']*", word)}
 
 

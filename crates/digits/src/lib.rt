@@ -3,7 +3,7 @@
 
 ghost use Rattle.std.specs.Prelude.{◌≡◌, ◌+◌, ◌≤◌, ◌<◌, length};
 ghost use Rattle.digits.specs.Digits.{between, two_digits, four_digits, eight_digits};
-ghost use Rattle.digits.specs.Digits.{worth as worthOf, upper as upperOf, glyph as glyphOf};
+ghost use Rattle.digits.specs.Digits.{worth as worth_of, upper as upper_of, glyph as glyph_of};
 ghost use Rattle.digits.specs.Putting.{Puts};
 ghost use Rattle.digits.specs.NumbersFound.{NumberAt};
 
@@ -19,7 +19,7 @@ fn is_between(first: u8, last: u8, b: u8) -> bool
 
 // What a byte is worth as a digit, 16 where it is none.
 pub fn worth(b: u8) -> u64
-    ensures { result ≡ worthOf b }
+    ensures { result ≡ worth_of b }
 {
     let capital = upper(b);
     if is_between(b'0', b'9', capital) {
@@ -33,7 +33,7 @@ pub fn worth(b: u8) -> u64
 
 // A letter a to f as the capital A to F, any other byte as it is.
 pub fn upper(b: u8) -> u8
-    ensures { result ≡ upperOf b }
+    ensures { result ≡ upper_of b }
 {
     if is_between(b'a', b'f', b) {
         return b - b'a' + b'A';
@@ -68,7 +68,7 @@ pub fn eight_at(text: &[u8], at: usize) -> u64
 // The byte of a digit.
 fn glyph(d: u32) -> u8
     requires { d < 16 }
-    ensures { result ≡ glyphOf d }
+    ensures { result ≡ glyph_of d }
 {
     if d < 10 {
         return b'0' + d as u8;

@@ -3,7 +3,7 @@
 
 ghost use Rattle.std.specs.Prelude.{◌≡◌, cond, eqb};
 ghost use Rattle.requests.specs.LinePlaces.{at_start, request_at, one_field};
-ghost use Rattle.requests.specs.LinePlaces.{onward as onwardFrom, spoilt as spoiltPlace};
+ghost use Rattle.requests.specs.LinePlaces.{onward as onward_from, spoilt as spoilt_place};
 ghost use Rattle.requests.specs.declared.Request.TheVariants.{Realloc, Report, Malformed};
 
 use digits::FOUR_DIGIT_VALUES;
@@ -49,7 +49,7 @@ pub fn at_start() -> Place
 
 // A line that can be no request any more.
 fn spoilt() -> Place
-    ensures { result ≡ spoiltPlace }
+    ensures { result ≡ spoilt_place }
 {
     Place {
         digits: TWO_FIELDS + 1,
@@ -59,7 +59,7 @@ fn spoilt() -> Place
 
 // The place after one more byte of the line.
 pub fn onward(place: Place, b: u8) -> Place
-    ensures { result ≡ onwardFrom place b }
+    ensures { result ≡ onward_from place b }
 {
     let worth = digits::worth(b);
     if 16 <= worth {
