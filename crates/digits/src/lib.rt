@@ -32,6 +32,7 @@ pub fn worth(b: u8) -> u64
 }
 
 // A letter a to f as the capital A to F, any other byte as it is.
+#[tactic(auto, unfolding(crate::specs::Digits::upper))]
 pub fn upper(b: u8) -> u8
     ensures { result ≡ upper_of b }
 {
@@ -66,6 +67,7 @@ pub fn eight_at(text: &[u8], at: usize) -> u64
 }
 
 // The byte of a digit.
+#[tactic(auto, unfolding(crate::specs::Digits::glyph))]
 fn glyph(d: u32) -> u8
     requires { d < 16 }
     ensures { result ≡ glyph_of d }

@@ -116,7 +116,7 @@ module _ (a : List ℕ) (b n : ℕ) where
   resize_case =
       regrant_case WouldMove resized _ _ (Resizes a b n) (λ e r pre s asked post is gap g. go pre s asked post e r is (stays_told a b (need n) n pre s asked post e is))
     where
-      go : {way : Way} (pre : List Chunk) (s asked : ℕ) (post : List Chunk) → sound a ≡ true → LawfulRequest (length a) n → BlockAt a b pre s asked post
+      go : (pre : List Chunk) (s asked : ℕ) (post : List Chunk) {way : Way} → sound a ≡ true → LawfulRequest (length a) n → BlockAt a b pre s asked post
           → Stays a b (need n) n pre s post way
           → Case 2 a (ResizeRefused a b n) (Resizes a b n) (settle 2 a (granted WouldMove way))
       go pre s asked post e r is (by_room keep k) = does (resizes e r pre s asked post is keep k)
@@ -136,7 +136,7 @@ module _ (a : List ℕ) (b n : ℕ) where
   realloc_case = regrant_case NoRoom regranted _ _ (Regrants a b n)
       (λ e r pre s asked post is gap g. go pre s asked post e r is (stays_told a b (need n) n pre s asked post e is) g)
     where
-      go : {way : Way} {gap : Spot} (pre : List Chunk) (s asked : ℕ) (post : List Chunk) → sound a ≡ true → LawfulRequest (length a) n
+      go : (pre : List Chunk) (s asked : ℕ) (post : List Chunk) {way : Way} {gap : Spot} → sound a ≡ true → LawfulRequest (length a) n
           → BlockAt a b pre s asked post
           → Stays a b (need n) n pre s post way → Picks (chunks_of a) (need n) gap
           → Case 2 a (ReallocRefused a b n) (Regrants a b n)

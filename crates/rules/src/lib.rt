@@ -4,7 +4,7 @@
 
 // One request of a batch: what is asked, a kind and two numbers, and what is answered, which is filled in.
 #[repr(C)]
-#[derive(Drop)]
+#[derive(Clone, Copy)]
 pub struct Request {
     pub kind: u32,
     pub b: u32,
@@ -15,7 +15,7 @@ pub struct Request {
 }
 
 // What is answered to one request.
-#[derive(Drop)]
+#[derive(Clone, Copy)]
 pub struct Served {
     pub code: u32,
     pub block: u32,
@@ -24,7 +24,7 @@ pub struct Served {
 
 // Where next fit goes on: a word of the arena, as the last granted call left it, or any number.
 #[repr(C)]
-#[derive(Drop)]
+#[derive(Clone, Copy)]
 pub struct Rover {
     pub at: u32,
 }
