@@ -7,8 +7,8 @@ ghost use Rattle.replies.specs.Boards.{longest_reply};
 ghost use Rattle.lines.specs.Pieces.{board_of, ending, HearsAll};
 ghost use Rattle.board.specs.Turns.{Roomy, Turned};
 
-use libc::{STDIN_FILENO, STDOUT_FILENO};
 use lines::Heard;
+use std::io::{Read, Write};
 
 // The most bytes that are read at once.
 const PIECE: usize = 1024;
@@ -44,27 +44,33 @@ fn hear_end(last: Heard, words: &mut [u32], out: &mut [u8]) -> Heard
 }
 
 // Reads once into `piece`, and answers what came, or the last line where nothing came. The replies are written at the
-// start of `out`, and then to standard output.
-fn turn(carried: Carried, words: &mut [u32], piece: &mut [u8], out: &mut [u8]) -> Carried
+// start of `out`, and then to the output.
+fn turn<R: Read, W: Write>(
+    input: &mut R,
+    output: &mut W,
+    carried: Carried,
+    words: &mut [u32],
+    piece: &mut [u8],
+    out: &mut [u8],
+) -> Carried
     requires { Roomy piece.old out.old }
     ensures { Turned carried.heard.place (board_of words.old carried.heard.lent)
         piece.new out.old result.heard words.new out.new }
 {
     let before = carried.heard;
-    let got = libc::read(STDIN_FILENO, piece);
-    if got <= 0 {
+    let count = input.read(piece).unwrap_or(0);
+    if count == 0 {
         let last = hear_end(before, words, out);
         let end = last.written;
-        io::write_all(STDOUT_FILENO, &out[..end]);
+        let _ = output.write_all(&out[..end]);
         return Carried {
             heard: last,
             goes_on: false,
         };
     }
-    let count = io::count(got, piece);
     let heard = hear_whole(before, words, &piece[..count], out);
     let end = heard.written;
-    let is_written = io::write_all(STDOUT_FILENO, &out[..end]);
+    let is_written = output.write_all(&out[..end]).is_ok();
     Carried {
         heard,
         goes_on: is_written,
@@ -73,7 +79,13 @@ fn turn(carried: Carried, words: &mut [u32], piece: &mut [u8], out: &mut [u8]) -
 
 // Answers all input. A proved loop has to end, and nothing says that an input does: so the turns are counted, from a
 // number that no run uses up.
-fn answer_all(words: &mut [u32], piece: &mut [u8], out: &mut [u8])
+fn answer_all<R: Read, W: Write>(
+    input: &mut R,
+    output: &mut W,
+    words: &mut [u32],
+    piece: &mut [u8],
+    out: &mut [u8],
+)
     requires { Roomy piece.old out.old }
 {
     let nothing = lines::nothing_heard();
@@ -83,15 +95,21 @@ fn answer_all(words: &mut [u32], piece: &mut [u8], out: &mut [u8])
     };
     let mut turns = u64::MAX;
     while turns > 0 && carried.goes_on {
-        carried = turn(carried, words, piece, out);
+        carried = turn(input, output, carried, words, piece, out);
         turns -= 1;
     }
 }
 
 // The board's words are all zero, and none of them is lent before the first start.
-fn main() {
+fn main(rt: HostRuntime) {
     let mut words = [0u32; layout::GREATEST_LENGTH];
     let mut piece = [0u8; PIECE];
     let mut out = [0u8; ROOM];
-    answer_all(&mut words, &mut piece, &mut out);
+    answer_all(
+        &mut rt.stdin(),
+        &mut rt.stdout(),
+        &mut words,
+        &mut piece,
+        &mut out,
+    );
 }
