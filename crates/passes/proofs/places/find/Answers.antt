@@ -1,0 +1,67 @@
+-- `places::find` meets its contract. The loop's invariant: the chunks from `chunk` on are left, and `link` is the
+-- second word of the last free one before them, or the list's first word.
+-- The measure is what is left of the words.
+use Prim.Native.Nat.{◌+◌, ◌≤◌, ◌<◌}
+use mathlib.Core.Path.{◌≡◌, sym, ◌∙◌}
+use native.Mathlib.Omega.{arith}
+use lib.ListN.{length, get_or}
+use Rattle.layout.specs.Numbers.{least_size, header_words}
+use Rattle.passes.proofs.Passing.{size_here, live_here, free_here}
+use Rattle.passes.proofs.Searching.{search_begins, search_in_vain, search_stops, search_past_live, search_past_free, search_above}
+use Rattle.passes.proofs.places.find.Goals as goal
+use Rattle.passes.proofs.places.find.Goals.{then-not-is_live, else-not-is_live}
+
+pub returns-then-a-b : goal.returns-then-a-b
+returns-then-a-b c = search_in_vain _ _ c.requires c.if-a-b.true
+
+pub returns-then-b-lt-HEADER_WORDS : goal.returns-then-b-lt-HEADER_WORDS
+returns-then-b-lt-HEADER_WORDS c =
+    let d = c in
+    search_above _ _ _ _ _ (search_begins _ d.args.b d.requires) (omega (arith, c.if-b-lt-HEADER_WORDS.true))
+
+pub loop-chunk-init : goal.loop-chunk-init
+loop-chunk-init c = (_, search_begins _ c.args.b c.requires)
+
+pub loop-chunk-smaller : goal.loop-chunk-smaller
+loop-chunk-smaller c =
+    let inside : c.loop-chunk.chunk < length c.args.a.now = omega (arith, c.loop-chunk-test.true, c.if-a-b.false) in
+    let sized : let a = c.args.a.now in
+    let chunk = c.loop-chunk.chunk in
+    (least_size ≤ get_or a chunk 0) × (chunk + get_or a chunk 0 ≤ length a) = let (ks, g) = c.loop-chunk.invariant in size_here _ _ ks g.left inside in
+    omega (arith, sized, c.wide-chunk.ensures)
+
+pub loop-chunk-preserved : goal.loop-chunk-preserved
+loop-chunk-preserved c =
+    let inside : c.loop-chunk.chunk < length c.args.a.now = omega (arith, c.loop-chunk-test.true, c.if-a-b.false) in
+    let (ks, g) = c.loop-chunk.invariant in
+    elim c.if-not-is_live.branch [
+      | then-not-is_live w ↦
+          let (ls, e) = free_here _ _ ks g.left inside (sym c.is_live.ensures ∙ w.if-not-is_live.true) in
+          (ls, rw (w.link-is, c.wide-chunk.ensures) (search_past_free _ _ _ _ _ ls (rw e at g)))
+      | else-not-is_live w ↦
+          let (asked, ls, e) = live_here _ _ ks g.left inside (sym c.is_live.ensures ∙ w.if-not-is_live.false) in
+          let other : c.loop-chunk.chunk + header_words ≡ c.args.b → ⊥ = omega (arith, c.loop-chunk-test.true) in
+          (ls, rw (w.link-is, c.wide-chunk.ensures) (search_past_live _ _ _ _ _ asked ls (rw e at g) other))
+    ]
+
+pub returns-then-chunk-start : goal.returns-then-chunk-start
+returns-then-chunk-start c =
+    let (ks, g) = c.loop-chunk.invariant in
+    search_above _ _ _ _ ks g (omega (arith, c.loop-chunk-test.false, c.if-chunk-start.true, c.if-b-lt-HEADER_WORDS.false))
+
+pub returns-then-not-is_live-2 : goal.returns-then-not-is_live-2
+returns-then-not-is_live-2 c =
+    let reached : c.loop-chunk.chunk < length c.args.a.now = omega (arith, c.if-chunk-start.false, c.if-a-b.false) in
+    let found = c in
+    let (ks, g) = found.loop-chunk.invariant in
+    let (ls, e) = free_here _ _ ks g.left reached (sym c.is_live-2.ensures ∙ c.if-not-is_live-2.true) in
+    search_above _ _ _ _ ls (search_past_free _ _ _ _ _ ls (rw e at g))
+    (omega (arith, found.if-chunk-start.false, found.if-b-lt-HEADER_WORDS.false, size_here _ _ ks g.left reached))
+
+pub returns : goal.returns
+returns c =
+    let reached : c.loop-chunk.chunk < length c.args.a.now = omega (arith, c.if-chunk-start.false, c.if-a-b.false) in
+    let found = c in
+    let (ks, g) = found.loop-chunk.invariant in
+    let (asked, ls, e) = live_here _ _ ks g.left reached (sym c.is_live-2.ensures ∙ c.if-not-is_live-2.false) in
+    search_stops _ _ _ _ _ asked ls (rw e at g) (omega (arith, found.if-chunk-start.false, found.if-b-lt-HEADER_WORDS.false))
