@@ -17,7 +17,7 @@ const PIECE: usize = 1024;
 const ROOM: usize = PIECE * lines::LONGEST_REPLY;
 
 // What is carried from one turn to the next: what came of the last one, and whether there is more to come.
-#[derive(Drop)]
+#[derive(Clone, Copy)]
 struct Carried {
     heard: Heard,
     goes_on: bool,
