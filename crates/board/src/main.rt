@@ -20,7 +20,7 @@ const ROOM: usize = PIECE * lines::LONGEST_REPLY;
 
 // What is carried from one turn to the next: what came of the last one, whether there is more to come, and whether all
 // of the text is answered.
-#[derive(Drop)]
+#[derive(Clone, Copy)]
 struct Carried {
     heard: Heard,
     goes_on: bool,

@@ -20,14 +20,14 @@ const NINE_DIGIT_VALUES: u64 = FOUR_DIGIT_VALUES * FOUR_DIGIT_VALUES * 16;
 
 // How far an unfinished line has come: its digits are counted, and the number that they make is kept. A line that can
 // be no request any more has a digit too many.
-#[derive(Drop)]
+#[derive(Clone, Copy)]
 pub struct Place {
     pub digits: usize,
     pub number: u64,
 }
 
 // A line's request.
-#[derive(Drop)]
+#[derive(Clone, Copy)]
 pub enum Request {
     Start(u32),
     Alloc(u32),
