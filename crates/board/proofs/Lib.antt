@@ -1,2 +1,3 @@
--- What a turn shows.
+-- What a turn shows, and what all turns do.
 pub mod Turning
+pub mod Runs
