@@ -52,7 +52,7 @@ module _ (library : Library) where
 
   singly_runs : {n : ℕ} {s : State} → Run library n s → (records : List Request) → Run library n (after_singly library records s)
   singly_runs run [] = run
-  singly_runs run (r ∷ rs) = singly_runs (one_runs run (wanted_in r)) rs
+  singly_runs {s = s} run (r ∷ rs) = singly_runs {s = after_one library (wanted_in r) s} (one_runs run (wanted_in r)) rs
 
   pub runs_hold_batches : RunsHoldBatches library
   runs_hold_batches n s run records = subst (Run library n) (sym (same_as_singly records s)) (singly_runs run records)

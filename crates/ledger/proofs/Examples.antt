@@ -47,7 +47,7 @@ AllAllowed (event ∷ events) s = Allowed event s.ledger × AllAllowed events (a
 -- a run goes on with events
 abbrev play : {n : ℕ} {s : State} → Run ours n s → (events : List Event) → AllAllowed events s → Run ours n (after_all events s)
 play run [] allowed = run
-play run (event ∷ events) allowed = play (next run event allowed.0) events allowed.1
+play {s = s} run (event ∷ events) allowed = play {s = after ours event s} (next run event allowed.0) events allowed.1
 
 -- what a run's calls answered, the start or the reading that it begins with first
 abbrev answers : {n : ℕ} {s : State} → Run ours n s → List Answer

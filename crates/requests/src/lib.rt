@@ -58,6 +58,7 @@ fn spoilt() -> Place
 }
 
 // The place after one more byte of the line.
+#[tactic(auto, unfolding(crate::specs::LinePlaces::onward))]
 pub fn onward(place: Place, b: u8) -> Place
     ensures { result ≡ onward_from place b }
 {
@@ -75,6 +76,7 @@ pub fn onward(place: Place, b: u8) -> Place
 }
 
 // The request of a line that ends here.
+#[tactic(auto, unfolding(crate::specs::LinePlaces::request_at))]
 pub fn request_at(place: Place) -> Request
     ensures { result ≡ request_at place }
 {
