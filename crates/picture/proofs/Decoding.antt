@@ -5,11 +5,14 @@ use mathlib.Core.Logic.{◌≢◌}
 use mathlib.Core.Bool.{Bool, true, false, cond, ◌&&◌}
 use mathlib.Core.List.{List, [], ◌++◌, map}
 use lib.ListN.{length, take, drop}
-use borrow.Author.Tests.{eq-eqb}
+use borrow.Author.Tests.{eq-eqb, ne_eqb}
 use Rattle.layout.specs.Numbers.{lawful}
+use Rattle.layout.specs.Reasons.{arena_gate}
+use Rattle.layout.specs.declared.Gate.TheVariants.{Open, Shut}
+use Rattle.layout.specs.declared.Reason.{Reason}
 use Rattle.layout.specs.declared.Reason.TheVariants.{Length, Frame}
 use Rattle.digits.specs.Digits.{upper}
-use Rattle.rules.specs.Answers.{Answer, Gives, refusal}
+use Rattle.rules.specs.Answers.{Answer, Gives, success, refusal}
 use Rattle.rules.specs.Pictures.{size_line, frames_from, frames_for, picture_of, picture_length, line_length, Said, bad, good, standing_count, standing}
 use Rattle.rules.specs.Pictures.{same, said}
 use Rattle.rules.specs.Calls.{read_on}
@@ -84,6 +87,24 @@ pub reads_words : (text a buffer : List ℕ) (n : ℕ) {answer : Answer} {after 
     → Accepts n buffer a answer after → Gives (read_on text a) answer after
 unfolding read_on
 reads_words text a buffer n f accepts = accepts (said text) f
+
+module _ (n : ℕ) (buffer a : List ℕ) where
+  pub accept_other_length : n ≢ length a → Accepts n buffer a (refusal 0 Length) a
+  accept_other_length other found f =
+      let (ws, is, long, there) = found_words found n buffer f in
+      rw (is, ne_eqb (length ws) (length a) (λ e. other (long ∙ e))) (record { answers = refl; leaves = refl })
+
+  module _ (same_length : n ≡ length a) where
+    module _ (fits : n ≤ length buffer) where
+      pub accept_shut : (why : Reason) → Shut why ≡ arena_gate (take n buffer) → Accepts n buffer a (refusal 0 why) a
+      accept_shut why shut found f =
+          let (ws, is, long, there) = found_words found n buffer f in
+          rw (is, eq-eqb (length ws) (length a) (sym long ∙ same_length), ← there fits, ← shut) (record { answers = refl; leaves = refl })
+
+      pub accept_open : (after : List ℕ) → Open ≡ arena_gate (take n buffer) → after ≡ take n buffer → Accepts n buffer a (success []) after
+      accept_open after opens copied found f =
+          let (ws, is, long, there) = found_words found n buffer f in
+          rw (is, eq-eqb (length ws) (length a) (sym long ∙ same_length), ← there fits, ← opens) (record { answers = refl; leaves = copied })
 
 -- words that are as many as the arena's, but no arena's number, are refused
 pub accept_unlawful : (n : ℕ) (buffer a : List ℕ) → n ≡ length a → lawful n ≡ false → Accepts n buffer a (refusal 0 Length) a

@@ -30,6 +30,11 @@ pub record Drawing (words room : List ℕ) (start : ℕ) (text : List ℕ) (at i
   pub left : front ++ frames_from (frames_for (length words - i)) i (drop i words) ≡ frames_from (frames_for (length words)) 0 words
 
 module _ (words room : List ℕ) (start : ℕ) where
+  pub drawing_begins : Drawing words room start room start 0
+  drawing_begins =
+      let all : length words - 0 ≡ length words = omega arith in
+      record { within = omega arith; front = []; put = record { ends = omega arith; says = refl }; left = rw all }
+
   module _ {text : List ℕ} {at i : ℕ} (d : Drawing words room start text at i) where
     -- where the next frame has `count` words, there is room for it
     pub drawing_room : (count : ℕ) → NextFrame (length words - i) count → start + length (frames_from (frames_for (length words)) 0 words) ≤ length room
