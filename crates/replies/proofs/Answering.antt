@@ -1,5 +1,5 @@
 -- A request answered: what its call on the lent words answered and left, and its reply.
-use Prim.Native.Nat.{ℕ, ◌≤◌, ◌<◌}
+use Prim.Native.Nat.{ℕ, ◌+◌, ◌≤◌, ◌<◌}
 use mathlib.Core.Path.{◌≡◌, refl, sym, ap, ◌∙◌, subst, subst⁻¹}
 use mathlib.Core.Logic.{◌≢◌}
 use mathlib.Core.Bool.{Bool, true, false, cond}
@@ -16,6 +16,8 @@ use Rattle.rules.specs.Answers.{Answer, success, refusal, Gives}
 use Rattle.rules.specs.Calls.{start_on, report_on}
 use Rattle.rules.proofs.Calls.{start_behaves, report_unchanged}
 use Rattle.answers.specs.Readings.{finish_numbers, granted_numbers, reported_numbers}
+use Rattle.answers.specs.Padded.{padded}
+use Rattle.answers.specs.declared.Numbers.{Numbers}
 use Rattle.answers.specs.declared.Finish.{Finish}
 use Rattle.answers.specs.declared.Finish.TheVariants.{Done, Refused as NotDone}
 use Rattle.answers.specs.declared.Granted.{Granted}
@@ -27,7 +29,7 @@ use Rattle.digits.specs.Putting.{Puts}
 use Rattle.requests.specs.Requests.{kind_of}
 use Rattle.requests.specs.declared.Request.{Request}
 use Rattle.requests.specs.declared.Request.TheVariants.{Start, Report, Malformed}
-use Rattle.replies.specs.Boards.{Board, lending, fields_text, reply_text, longest_reply, lent_for, outcome_of, lent_after, with_lent}
+use Rattle.replies.specs.Boards.{Board, lending, fields_text, reply_text, reply_length, longest_reply, lent_for, outcome_of, lent_after, with_lent}
 use Rattle.replies.specs.Boards.{replied}
 use Rattle.replies.specs.Answering.{Answers}
 use Rattle.replies.proofs.ReplyTexts.{fields_length}
@@ -50,6 +52,11 @@ reported_fields (NotReported why) = omega arith
 reply_short : (kind : ℕ) (answer : Answer) → length answer.values ≤ 4 → length (reply_text kind answer) ≤ longest_reply
 unfolding reply_text
 reply_short kind answer few = omega (arith, few, length-append (fields_text answer.values) (line_end ∷ []), fields_length answer.values)
+
+-- an answer in numbers can be put where the longest reply has room
+pub numbers_fit : {numbers : Numbers} (answer : Answer) (at room : ℕ) → numbers ≡ padded answer → length answer.values ≤ 4
+    → at + longest_reply ≤ room → (numbers.count ≤ length numbers.fields) × (at + reply_length numbers.count ≤ room)
+numbers_fit answer at room e few fits = rw e (few, omega (arith, few, fits))
 
 -- ---- any request
 
@@ -133,10 +140,10 @@ start_lends_none words n lent at end room text more fits puts =
     (refusal_not_done Length) (λ not. refl) fits puts (omega arith)
 
 -- the first `n` words are lent for it
-lent_for_start : (words : List ℕ) (n lent : ℕ) (answer : Answer) (after : List ℕ) → n ≤ length words → Gives (start_on (take n words)) answer after
+lent_for_lem : (words : List ℕ) (n lent : ℕ) (answer : Answer) (after : List ℕ) → n ≤ length words → Gives (start_on (take n words)) answer after
     → Gives (outcome_of (Start n) (lending words lent)) answer after
 unfolding outcome_of
-lent_for_start words n lent answer after enough gives =
+lent_for_lem words n lent answer after enough gives =
     subst⁻¹ (λ (a : List ℕ). Gives (start_on a) answer after) (ap (λ (t : Bool). cond t (take n words) []) (le-leb _ _ enough)) gives
 
 -- the start is refused: the words are as they were
@@ -148,7 +155,7 @@ start_lends_refused words n lent at end why after room text enough fits gives pu
     let same : after ++ drop n words ≡ words
     = ap (λ (a : List ℕ). a ++ drop n words) (gives.leaves ∙ (start_behaves (take n words)).unchanged some) ∙ take-append-drop n words in
     request_answered (Start n) (lending words lent) (after ++ drop n words) lent at end after room text (refusal 0 why)
-    (lent_for_start words n lent _ _ enough gives) (refusal_not_done why) (λ not. ap (λ (a : List ℕ). lending a lent) same)
+    (lent_for_lem words n lent _ _ enough gives) (refusal_not_done why) (λ not. ap (λ (a : List ℕ). lending a lent) same)
     (omega (arith, fits, ap length same)) puts (omega arith)
 
 -- it is done: they are lent from now on
@@ -157,4 +164,4 @@ pub start_lends : (words : List ℕ) (n lent at end : ℕ) (after room text : Li
     → Answers (replied (Start n) (lending words lent)) (after ++ drop n words) n at room end text
 start_lends words n lent at end after room text enough kept gives puts =
     request_answered (Start n) (lending words lent) (after ++ drop n words) n at end after room text (success [])
-    (lent_for_start words n lent _ _ enough gives) (λ is. refl) (λ not. absurd (not refl)) (omega (arith, enough, kept)) puts (omega arith)
+    (lent_for_lem words n lent _ _ enough gives) (λ is. refl) (λ not. absurd (not refl)) (omega (arith, enough, kept)) puts (omega arith)
