@@ -1,6 +1,5 @@
 -- A turn that goes on comes after such turns alone; and so does the last.
-use Rattle.std.proofs.Common.{◌≡◌, ◌*◌, ◌≤◌, length, arith, refl, rules}
-use Rattle.replies.specs.Boards.{longest_reply}
+use Rattle.std.proofs.Common.{◌≡◌, length, arith, refl, rules}
 use Rattle.board.proofs.Runs.{nothing_yet, turn_on, turn_last}
 use Rattle.board.proofs.answer_all.Goals as goal
 
