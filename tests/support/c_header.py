@@ -10,7 +10,7 @@ HEADER = "include/zandervlecht.h"
 GUARD = "#define ZANDERVLECHT_H"
 
 # A function of the crate that C can call: its name, its parameters, and the type that it returns.
-EXPORT = re.compile(r'#\[no_mangle\]\npub extern "C" fn (\w+)\((.*?)\)(?: -> (\w+))?\s', re.DOTALL)
+EXPORT = re.compile(r'#\[unsafe\(no_mangle\)\]\npub extern "C" fn (\w+)\((.*?)\)(?: -> (\w+))?\s', re.DOTALL)
 
 # A lent slice or, with a number, a lent array; and a lent record.
 LENT = re.compile(r"&(mut )?\[(\w+)(?:; (\d+))?\]")
@@ -31,7 +31,7 @@ CONSTANTS = {"ZV_LEAST_WORDS": "LEAST_LENGTH", "ZV_GREATEST_WORDS": "GREATEST_LE
 ANSWER = re.compile(r"pub enum (\w+) \{\s*\w+ \{(.*?)\}", re.DOTALL)
 
 # A record of the code that lies in memory as C has it, with its fields, and one of these.
-RECORD = re.compile(r"#\[repr\(C\)\]\npub struct (\w+) \{(.*?)\}", re.DOTALL)
+RECORD = re.compile(r"#\[repr\(C\)\]\n(?:#\[derive\([^\n]*\)\]\n)*pub struct (\w+) \{(.*?)\}", re.DOTALL)
 FIELD = re.compile(r"(\w+): (.+?),?\s*$", re.MULTILINE)
 
 # What makes the call of a kind, and its lines: for each kind the number, the answer, the call and what that takes.
@@ -258,7 +258,7 @@ def said_before(text):
 def wrong_marks(root):
     """Functions that are marked for C in a way that is not read here."""
     source, count = source_of(root, "zandervlecht"), len(exports(root))
-    for mark in ("#[no_mangle]", 'extern "C"'):
+    for mark in ("#[unsafe(no_mangle)]", 'extern "C"'):
         if source.count(mark) != count:
             yield f"{mark} is in the code {source.count(mark)} times, and {count} functions were read there"
 

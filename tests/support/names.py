@@ -24,7 +24,7 @@ PATH = re.compile(r"[\w.*+-]+/[\w.*+/-]*|[\w*+-]+\.(?:antt|edit|md|py|rt|txt)")
 COMMAND = re.compile(r"(bash|python3|rt)(?: (.*))?")
 
 # The folders that are no part of the repository.
-OUTSIDE = {".git", "target", "__pycache__"}
+OUTSIDE = {".git", "out", "target", "__pycache__"}
 
 # All names, all paths, and the names in the code of each crate.
 Known = namedtuple("Known", "names paths code")

@@ -12,7 +12,7 @@ TESTS = os.path.dirname(os.path.dirname(os.path.abspath(__file__)))
 ROOT = os.path.dirname(TESTS)
 
 # The program of cases that is built, from the repository's top.
-BUILT_CASES = os.path.join("target", "bin", "cases")
+BUILT_CASES = os.path.join("crates", "cases", "out", "cases")
 
 # Python, without what is installed besides it: no driver or tool needs that, and to look for it takes time.
 PYTHON = [sys.executable, "-S"]

@@ -1,5 +1,7 @@
 """What spoils the header of the calls for C, or what it has to agree with: the sources and the library."""
 
+import re
+
 from .c_header import HEADER
 from .c_programs import LIBRARY
 from .spoiling import edited, edited_bytes, replaced
@@ -38,7 +40,8 @@ def renamed_symbol(root):
 
 def unlike_c(record):
     """A record of the code lies in memory as the compiler likes."""
-    return replaced(RULES, f"#[repr(C)]\npub struct {record} {{", f"pub struct {record} {{")
+    marked = re.compile(rf"#\[repr\(C\)\]\n((?:#\[derive\([^\n]*\)\]\n)*pub struct {record} \{{)")
+    return lambda root: edited(root, RULES, lambda text: marked.sub(r"\1", text))
 
 
 # What spoils a copy, and what the driver then has to tell.
@@ -137,7 +140,8 @@ SPOILED = [
     (replaced(CALLS, "rover: &mut Rover,\n    n: u32,\n", "n: u32,\n    rover: &mut Rover,\n"),
      "uint32_t n, struct zv_rover *rover"),
     (replaced(CALLS, "fn zv_alloc_best", "fn zv_alloc_worst"), "the header lacks: uint32_t zv_alloc_worst("),
-    (replaced(CALLS, "#[no_mangle]\n", "#[no_mangle]\n#[inline]\n"), "times, and 13 functions were read there"),
+    (replaced(CALLS, "#[unsafe(no_mangle)]\n", "#[unsafe(no_mangle)]\n#[inline]\n"),
+     "times, and 13 functions were read there"),
     (unlike_c("Request"), "the header lacks: struct zv_request: of no fields"),
     (unlike_c("Rover"), "the header lacks: struct zv_rover: of no fields"),
     (replaced(RULES, "at: u32", "at: u64"), "the header lacks: struct zv_rover: u64 at"),

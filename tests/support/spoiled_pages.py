@@ -25,7 +25,7 @@ SPOILED = [
     (added("docs/DECISIONS.md", "Type `python3 tests/invented.py --seed 7`."), "there is no `tests/invented.py`"),
     (added("docs/DECISIONS.md", "See `need."), "there is no second backtick on the line"),
     (added("docs/BOARD.md", "See `FFFFFFF`."), "there is no `FFFFFFF`"),
-    (renamed_everywhere("allocOn", "allocAt"), "there is no `allocOn`"),
+    (renamed_everywhere("alloc_on", "alloc_at"), "there is no `alloc_on`"),
     (replaced("docs/WRONG-PROGRAMS.md", "| `odd_length` |", "| `small_chunk` |"), "is not as it is made"),
     (replaced("crates/layout/must-fail/odd_length.edit", "# ", "# Here "), "is not as it is made"),
     (replaced("tools/wrong_programs", '"*.edit"', '"[a-r]*.edit"'), "does not print each must-fail edit once"),

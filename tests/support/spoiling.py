@@ -45,7 +45,7 @@ def copy_repository(copy, without):
     for path in BUILT:
         if os.path.exists(os.path.join(programs.ROOT, path)):
             os.makedirs(os.path.dirname(os.path.join(copy, path)))
-            shutil.copyfile(os.path.join(programs.ROOT, path), os.path.join(copy, path))
+            shutil.copy(os.path.join(programs.ROOT, path), os.path.join(copy, path))
 
 
 def complaints(driver, words):

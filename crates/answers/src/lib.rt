@@ -8,35 +8,35 @@ ghost use Rattle.answers.specs.Padded.{padded, padded_refusal};
 use layout::Reason;
 
 // What start, free and the reading of a picture answer.
-#[derive(Drop)]
+#[derive(Clone, Copy)]
 pub enum Finish {
     Done,
     Refused(Reason),
 }
 
 // What alloc, alloc_best, resize, relocate and realloc answer.
-#[derive(Drop)]
+#[derive(Clone, Copy)]
 pub enum Granted {
     Block { block: u32, granted: u32 },
     Refused(Reason),
 }
 
 // What alloc_next answers: what alloc does, and the rover afterwards.
-#[derive(Drop)]
+#[derive(Clone, Copy)]
 pub struct Roved {
     pub granted: Granted,
     pub rover: u32,
 }
 
 // What size answers: the words that were asked for, and those granted.
-#[derive(Drop)]
+#[derive(Clone, Copy)]
 pub enum Sized {
     Words { asked: u32, granted: u32 },
     Refused(Reason),
 }
 
 // What report answers.
-#[derive(Drop)]
+#[derive(Clone, Copy)]
 pub enum Reported {
     Counts {
         free_words: u32,
@@ -48,14 +48,14 @@ pub enum Reported {
 }
 
 // What the writing of a picture answers: how many bytes it has.
-#[derive(Drop)]
+#[derive(Clone, Copy)]
 pub enum Written {
     Bytes(u32),
     Refused(Reason),
 }
 
 // An answer in numbers: its code, how many fields it has, and the fields, behind which all is 0.
-#[derive(Drop)]
+#[derive(Clone, Copy)]
 pub struct Numbers {
     pub code: u32,
     pub count: usize,

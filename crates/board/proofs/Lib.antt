@@ -1,2 +1,2 @@
--- What a turn shows.
-pub mod Turning
+-- What all turns come to.
+pub mod Runs

@@ -2,13 +2,15 @@
 // answered.
 #![tactic(auto)]
 
-ghost use Rattle.std.specs.Prelude.{◌*◌, ◌≤◌, length};
-ghost use Rattle.replies.specs.Boards.{longest_reply};
+ghost use Rattle.std.specs.Prelude.{◌*◌, ◌<◌, ◌≤◌, length, IfSome, IsTrue};
+ghost use Rattle.std.specs.Io.KnownBytes.{Appends};
+ghost use Rattle.replies.specs.Boards.{lending, longest_reply};
 ghost use Rattle.lines.specs.Pieces.{board_of, ending, HearsAll};
-ghost use Rattle.board.specs.Turns.{Roomy, Turned};
+ghost use Rattle.lines.specs.Texts.{means};
+ghost use Rattle.board.specs.Turns.{Roomy, Turned, GoesOn, Ended};
 
-use libc::{STDIN_FILENO, STDOUT_FILENO};
 use lines::Heard;
+use std::io::{Read, Write};
 
 // The most bytes that are read at once.
 const PIECE: usize = 1024;
@@ -16,11 +18,13 @@ const PIECE: usize = 1024;
 // Room for all that they can ask for.
 const ROOM: usize = PIECE * lines::LONGEST_REPLY;
 
-// What is carried from one turn to the next: what came of the last one, and whether there is more to come.
-#[derive(Drop)]
+// What is carried from one turn to the next: what came of the last one, whether there is more to come, and whether all
+// of the text is answered.
+#[derive(Clone, Copy)]
 struct Carried {
     heard: Heard,
     goes_on: bool,
+    is_answered: bool,
 }
 
 // Hears a whole piece: the text has room to answer it.
@@ -44,54 +48,86 @@ fn hear_end(last: Heard, words: &mut [u32], out: &mut [u8]) -> Heard
 }
 
 // Reads once into `piece`, and answers what came, or the last line where nothing came. The replies are written at the
-// start of `out`, and then to standard output.
-fn turn(carried: Carried, words: &mut [u32], piece: &mut [u8], out: &mut [u8]) -> Carried
+// start of `out`, and then to the output.
+fn turn<R: Read, W: Write>(
+    input: &mut R,
+    output: &mut W,
+    carried: Carried,
+    words: &mut [u32],
+    piece: &mut [u8],
+    out: &mut [u8],
+) -> Carried
     requires { Roomy piece.old out.old }
-    ensures { Turned carried.heard.place (board_of words.old carried.heard.lent)
+    ensures turned { Turned carried.heard.place (board_of words.old carried.heard.lent)
         piece.new out.old result.heard words.new out.new }
+    ensures goes_on { IsTrue result.goes_on → GoesOn carried.heard.place
+        (board_of words.old carried.heard.lent) piece.new out.old result.heard words.new out.new
+        (R.remaining input.old) (R.remaining input.new) (W.contents output.old) (W.contents output.new) }
+    ensures ended { IsTrue result.is_answered → Ended carried.heard.place
+        (board_of words.old carried.heard.lent) piece.old out.old result.heard words.new out.new
+        (R.remaining input.old) (W.contents output.old) (W.contents output.new) }
 {
     let before = carried.heard;
-    let got = libc::read(STDIN_FILENO, piece);
-    if got <= 0 {
+    let got = input.read(piece);
+    let is_read = got.is_ok();
+    let count = got.unwrap_or(0);
+    if count == 0 {
         let last = hear_end(before, words, out);
         let end = last.written;
-        io::write_all(STDOUT_FILENO, &out[..end]);
+        let is_written = output.write_all(&out[..end]).is_ok();
         return Carried {
             heard: last,
             goes_on: false,
+            is_answered: is_read && is_written,
         };
     }
-    let count = io::count(got, piece);
     let heard = hear_whole(before, words, &piece[..count], out);
     let end = heard.written;
-    let is_written = io::write_all(STDOUT_FILENO, &out[..end]);
+    let is_written = output.write_all(&out[..end]).is_ok();
     Carried {
         heard,
         goes_on: is_written,
+        is_answered: false,
     }
 }
 
-// Answers all input. A proved loop has to end, and nothing says that an input does: so the turns are counted, from a
-// number that no run uses up.
-fn answer_all(words: &mut [u32], piece: &mut [u8], out: &mut [u8])
+// Answers all input, and says whether it was read to its end and all replies were written. A proved loop has to end,
+// and nothing says that an input does: so the turns are counted, from a number that no run uses up.
+fn answer_all<R: Read, W: Write>(
+    input: &mut R,
+    output: &mut W,
+    words: &mut [u32],
+    piece: &mut [u8],
+    out: &mut [u8],
+) -> bool
     requires { Roomy piece.old out.old }
+    ensures { IsTrue result → 0 < length piece.old → IfSome (R.remaining input.old) (λ text.
+        Appends (W.contents output.old) (W.contents output.new) (means text (lending words.old 0)).reply) }
 {
     let nothing = lines::nothing_heard();
     let mut carried = Carried {
         heard: nothing,
         goes_on: true,
+        is_answered: false,
     };
     let mut turns = u64::MAX;
     while turns > 0 && carried.goes_on {
-        carried = turn(carried, words, piece, out);
+        carried = turn(input, output, carried, words, piece, out);
         turns -= 1;
     }
+    carried.is_answered
 }
 
 // The board's words are all zero, and none of them is lent before the first start.
-fn main() {
+fn main(rt: HostRuntime) {
     let mut words = [0u32; layout::GREATEST_LENGTH];
     let mut piece = [0u8; PIECE];
     let mut out = [0u8; ROOM];
-    answer_all(&mut words, &mut piece, &mut out);
+    answer_all(
+        &mut rt.stdin(),
+        &mut rt.stdout(),
+        &mut words,
+        &mut piece,
+        &mut out,
+    );
 }

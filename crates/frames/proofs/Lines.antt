@@ -13,7 +13,8 @@ use Rattle.layout.specs.Numbers.{word_values}
 use Rattle.digits.specs.Digits.{line_end, number_of, upper, two_digits, four_digits, eight_digits, in_digits}
 use Rattle.digits.specs.Putting.{Puts}
 use Rattle.digits.proofs.Putting.{puts_line, put_front}
-use Rattle.rules.specs.Pictures.{line, words_in, same}
+use Rattle.rules.specs.Pictures.{line, line_length, words_in, same}
+use Rattle.rules.proofs.Pictures.{line_length_lem}
 use Rattle.frames.specs.Lines.{has_line}
 
 -- kind, number, words and the line's end, one after the other
@@ -24,6 +25,11 @@ unfolding line
 line_put kind number at end ws room one two three first second words =
     puts_line at (at + 2) (at + 6) end (two_digits kind) (four_digits number) (in_digits eight_digits ws) room one two three first
     (record { ends = omega arith; says = second.says }) words
+
+-- where a line that was put ends
+pub line_ends : (kind number : ℕ) (words : List ℕ) {at end : ℕ} {room text : List ℕ} → Puts at (line kind number words) room end text
+    → end ≡ at + line_length (length words)
+line_ends kind number words p = omega (arith, p.ends, line_length_lem kind number words)
 
 -- bytes that were put at the start of a text stand there
 pub put_there : {bs room text : List ℕ} {end : ℕ} → Puts 0 bs room end text → length bs ≤ length room → take end text ≡ bs

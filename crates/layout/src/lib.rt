@@ -31,7 +31,7 @@ const LIVE_MARK: u32 = 2147483648;
 pub const WORD_VALUES: u64 = 4294967296;
 
 // Why a call says no.
-#[derive(Drop)]
+#[derive(Clone, Copy)]
 pub enum Reason {
     Length,
     Damaged,
@@ -45,7 +45,7 @@ pub enum Reason {
 }
 
 // Whether a call may go on.
-#[derive(Drop)]
+#[derive(Clone, Copy)]
 pub enum Gate {
     Open,
     Shut(Reason),

@@ -14,7 +14,7 @@ pub const LONGEST_REPLY: usize = 21;
 
 // What came of a piece: the place after it, how many words are lent, how many bytes of it were taken, and how many
 // bytes of reply were written.
-#[derive(Drop)]
+#[derive(Clone, Copy)]
 pub struct Heard {
     pub place: Place,
     pub lent: usize,

@@ -8,7 +8,7 @@ use layout::wide;
 
 // A chunk that a search found: its link word (the list's first word, or the second word of the last free chunk below
 // it), and its start.
-#[derive(Drop)]
+#[derive(Clone, Copy)]
 pub enum Place {
     At(usize, usize),
     Nowhere,

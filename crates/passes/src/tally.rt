@@ -6,7 +6,7 @@ ghost use Rattle.passes.specs.Tallies.{free_tally};
 use layout::wide;
 
 // The free chunks counted: their words, the largest request that one of them holds, how many they are.
-#[derive(Drop)]
+#[derive(Clone, Copy)]
 pub struct FreeTally {
     pub words: usize,
     pub largest: usize,

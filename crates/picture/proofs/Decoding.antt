@@ -95,12 +95,6 @@ module _ (n : ℕ) (buffer a : List ℕ) where
       rw (is, ne_eqb (length ws) (length a) (λ e. other (long ∙ e))) (record { answers = refl; leaves = refl })
 
   module _ (same_length : n ≡ length a) where
-    pub accept_unlawful : lawful n ≡ false → Accepts n buffer a (refusal 0 Length) a
-    accept_unlawful l found f =
-        let (ws, is, long, there) = found_words found n buffer f in
-        rw (is, eq-eqb (length ws) (length a) (sym long ∙ same_length), unlawful_gate ws (ap lawful (sym long) ∙ l))
-        (record { answers = refl; leaves = refl })
-
     module _ (fits : n ≤ length buffer) where
       pub accept_shut : (why : Reason) → Shut why ≡ arena_gate (take n buffer) → Accepts n buffer a (refusal 0 why) a
       accept_shut why shut found f =
@@ -111,3 +105,10 @@ module _ (n : ℕ) (buffer a : List ℕ) where
       accept_open after opens copied found f =
           let (ws, is, long, there) = found_words found n buffer f in
           rw (is, eq-eqb (length ws) (length a) (sym long ∙ same_length), ← there fits, ← opens) (record { answers = refl; leaves = copied })
+
+-- words that are as many as the arena's, but no arena's number, are refused
+pub accept_unlawful : (n : ℕ) (buffer a : List ℕ) → n ≡ length a → lawful n ≡ false → Accepts n buffer a (refusal 0 Length) a
+accept_unlawful n buffer a same_length l found f =
+    let (ws, is, long, there) = found_words found n buffer f in
+    rw (is, eq-eqb (length ws) (length a) (sym long ∙ same_length), unlawful_gate ws (ap lawful (sym long) ∙ l))
+    (record { answers = refl; leaves = refl })

@@ -46,6 +46,7 @@ pub fn read(text: &[u8], a: &mut [u32]) -> Finish
 
 // Makes the arena the first `n` words, if it has as many and they are a sound arena. That so many words can be an
 // arena's is asked before the walk asks it, since no more of them are there.
+#[tactic(auto, using(crate::proofs::Decoding::accept_unlawful))]
 fn accept(words: &[u32], n: usize, a: &mut [u32]) -> Finish
     requires { greatest_length ≤ length words.now }
     ensures { Accepts n words.now a.old (finish_numbers result) a.new }

@@ -5,7 +5,7 @@ ghost use Rattle.rules.specs.Pictures.{frame_words, line_length, picture_length,
 ghost use Rattle.picture.specs.Decoding.{ReadsFrame, Slot, ReadsFrames, Finds};
 
 // How many words a text says, or that it is bad.
-#[derive(Drop)]
+#[derive(Clone, Copy)]
 pub(crate) enum Found {
     Words(usize),
     Bad,

@@ -9,7 +9,7 @@ ghost use Rattle.picture_cases.specs.CaseRooms.{CaseRooms};
 
 use answers::Numbers;
 use layout::{Reason, wide};
-use libc::{STDIN_FILENO, STDOUT_FILENO};
+use std::io::{Read, Write};
 
 // The most bytes of a text, and the most words of an arena: more than any picture has, and than is lawful.
 const MOST_BYTES: usize = 600000;
@@ -32,42 +32,61 @@ fn answer(call: u32, text: &mut [u8], a: &mut [u32]) -> Numbers {
 }
 
 // Writes code and field, the text and the arena; false where they cannot be written.
-fn write_reply(numbers: Numbers, text: &[u8], a: &[u32], bytes: &mut [u8]) -> bool
+fn write_reply<W: Write>(
+    output: &mut W,
+    numbers: Numbers,
+    text: &[u8],
+    a: &[u32],
+    bytes: &mut [u8],
+) -> bool
     requires { CaseRooms a.now bytes.old }
 {
     let fields = numbers.fields;
     let field = fields[0];
     let head = [numbers.code, field];
-    if !wire::write_words(&head, bytes) {
+    if !wire::write_words(output, &head, bytes) {
         return false;
     }
-    if !io::write_all(STDOUT_FILENO, text) {
+    if output.write_all(text).is_err() {
         return false;
     }
-    wire::write_words(a, bytes)
+    wire::write_words(output, a, bytes)
 }
 
 // Reads the text and the arena of a case, makes its call and writes the reply; false where that cannot be done.
-fn run_call(call: u32, text: &mut [u8], a: &mut [u32], bytes: &mut [u8]) -> bool
+fn run_call<R: Read, W: Write>(
+    input: &mut R,
+    output: &mut W,
+    call: u32,
+    text: &mut [u8],
+    a: &mut [u32],
+    bytes: &mut [u8],
+) -> bool
     requires { CaseRooms a.old bytes.old }
 {
-    if io::read_full(STDIN_FILENO, text) < text.len() {
+    if input.read_exact(text).is_err() {
         return false;
     }
-    if !wire::read_words(a, bytes) {
+    if !wire::read_words(input, a, bytes) {
         return false;
     }
     let numbers = answer(call, text, a);
-    write_reply(numbers, text, a, bytes)
+    write_reply(output, numbers, text, a, bytes)
 }
 
 // Runs one case, whose text and arena are read to the start of `page` and `space`; false where there is no whole case,
 // where they are too long for these, or where the reply cannot be written.
-fn run_case(page: &mut [u8], space: &mut [u32], bytes: &mut [u8]) -> bool
+fn run_case<R: Read, W: Write>(
+    input: &mut R,
+    output: &mut W,
+    page: &mut [u8],
+    space: &mut [u32],
+    bytes: &mut [u8],
+) -> bool
     requires { CaseRooms space.old bytes.old }
 {
     let mut head = [0u32; 3];
-    if !wire::read_words(&mut head, bytes) {
+    if !wire::read_words(input, &mut head, bytes) {
         return false;
     }
     let text_count = wide(head[1]);
@@ -79,6 +98,8 @@ fn run_case(page: &mut [u8], space: &mut [u32], bytes: &mut [u8]) -> bool
         return false;
     }
     run_call(
+        input,
+        output,
         head[0],
         &mut page[..text_count],
         &mut space[..word_count],
@@ -88,19 +109,31 @@ fn run_case(page: &mut [u8], space: &mut [u32], bytes: &mut [u8]) -> bool
 
 // Runs cases until one cannot be run. A proved loop has to end, so turns are counted down from a number that no run
 // uses up.
-fn run_cases(page: &mut [u8], space: &mut [u32], bytes: &mut [u8])
+fn run_cases<R: Read, W: Write>(
+    input: &mut R,
+    output: &mut W,
+    page: &mut [u8],
+    space: &mut [u32],
+    bytes: &mut [u8],
+)
     requires { CaseRooms space.old bytes.old }
 {
     let mut turns = u64::MAX;
-    while turns > 0 && run_case(page, space, bytes) {
+    while turns > 0 && run_case(input, output, page, space, bytes) {
         turns -= 1;
     }
 }
 
 // Lends the buffers.
-fn main() {
+fn main(rt: HostRuntime) {
     let mut page = [0u8; MOST_BYTES];
     let mut space = [0u32; MOST_WORDS];
     let mut bytes = [0u8; 4 * MOST_WORDS];
-    run_cases(&mut page, &mut space, &mut bytes);
+    run_cases(
+        &mut rt.stdin(),
+        &mut rt.stdout(),
+        &mut page,
+        &mut space,
+        &mut bytes,
+    );
 }

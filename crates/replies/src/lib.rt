@@ -12,7 +12,7 @@ use layout::{Reason, wide};
 use requests::Request;
 
 // How many words are lent after a reply, and where it ends.
-#[derive(Drop)]
+#[derive(Clone, Copy)]
 pub struct Said {
     pub lent: usize,
     pub end: usize,

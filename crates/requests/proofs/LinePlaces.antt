@@ -102,8 +102,8 @@ field_at n i line digits fits =
     let part = take 4 (drop i line) in
     let long : length part ≡ 4 = length-take-le 4 (drop i line) (simp length-drop (omega arith)) in
     let sum : number_from n part ≡ n * four_digit_values + number_of part = omega (arith, rw long at (number_raised n 0 n part (omega arith))) in
-    let are-digits : all_digits part ≡ true = (digits_cut 4 (drop i line) (digits_cut i line digits).1).0 in
-    let below : number_of part < four_digit_values = rw long at (number_below 0 1 part are-digits (omega arith)) in
+    let are_digits : all_digits part ≡ true = (digits_cut 4 (drop i line) (digits_cut i line digits).1).0 in
+    let below : number_of part < four_digit_values = rw long at (number_below 0 1 part are_digits (omega arith)) in
     record { joins = rw (← sum, ← drop-drop) (number_cut n 4 (drop i line)); front = omega arith; last = omega arith }
 
 -- ---- the request

@@ -20,14 +20,14 @@ const NINE_DIGIT_VALUES: u64 = FOUR_DIGIT_VALUES * FOUR_DIGIT_VALUES * 16;
 
 // How far an unfinished line has come: its digits are counted, and the number that they make is kept. A line that can
 // be no request any more has a digit too many.
-#[derive(Drop)]
+#[derive(Clone, Copy)]
 pub struct Place {
     pub digits: usize,
     pub number: u64,
 }
 
 // A line's request.
-#[derive(Drop)]
+#[derive(Clone, Copy)]
 pub enum Request {
     Start(u32),
     Alloc(u32),
@@ -58,6 +58,7 @@ fn spoilt() -> Place
 }
 
 // The place after one more byte of the line.
+#[tactic(auto, unfolding(crate::specs::LinePlaces::onward))]
 pub fn onward(place: Place, b: u8) -> Place
     ensures { result ≡ onward_from place b }
 {
@@ -75,6 +76,7 @@ pub fn onward(place: Place, b: u8) -> Place
 }
 
 // The request of a line that ends here.
+#[tactic(auto, unfolding(crate::specs::LinePlaces::request_at))]
 pub fn request_at(place: Place) -> Request
     ensures { result ≡ request_at place }
 {

@@ -6,7 +6,7 @@ ghost use Rattle.stores.specs.RoomAt.{RoomAt, FreedAt, ends_at};
 use layout::wide;
 
 // A chunk together with a free chunk right after it, if there is one: their words, and the next free chunk behind them.
-#[derive(Drop)]
+#[derive(Clone, Copy)]
 pub struct Room {
     pub words: usize,
     pub next: usize,

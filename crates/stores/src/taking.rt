@@ -5,7 +5,7 @@ ghost use Rattle.stores.specs.Taken.{TakesAt};
 use layout::wide;
 
 // A live chunk: where it starts, and its words.
-#[derive(Drop)]
+#[derive(Clone, Copy)]
 pub struct Piece {
     pub chunk: usize,
     pub words: usize,

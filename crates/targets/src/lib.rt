@@ -14,7 +14,7 @@ use passes::places::Place;
 use ways::Way;
 
 // The need of a new block; or why the request is refused.
-#[derive(Drop)]
+#[derive(Clone, Copy)]
 pub enum Asked {
     Need(usize),
     Refused(Reason),
@@ -44,7 +44,7 @@ pub fn ask(a: &[u32], n: u32) -> Asked
 }
 
 // A block's chunk, and its link word; or why a call on the block is refused.
-#[derive(Drop)]
+#[derive(Clone, Copy)]
 pub enum Located {
     Chunk { link: usize, chunk: usize },
     Refused(Reason),
@@ -66,7 +66,7 @@ pub fn locate(a: &[u32], b: u32) -> Located
 }
 
 // The chunk of a block that is granted anew, its link word, and the need; or why the call is refused.
-#[derive(Drop)]
+#[derive(Clone, Copy)]
 pub enum Target {
     Block {
         link: usize,

@@ -24,7 +24,7 @@ pub fn tell_granted(granted: Granted, answer: &mut [u32; 2]) -> u32
 }
 
 // What next fit tells: the code, and the rover afterwards.
-#[derive(Drop)]
+#[derive(Clone, Copy)]
 pub struct NextTold {
     pub code: u32,
     pub rover: u32,

@@ -7,7 +7,7 @@ use super::{calls, parts};
 use answers::{Finish, Numbers};
 
 // What is replied to a trial, but for the words: the answer, and how many words were handed back.
-#[derive(Drop)]
+#[derive(Clone, Copy)]
 pub struct Reply {
     pub answered: Numbers,
     pub count: usize,

@@ -36,7 +36,7 @@ fn size_at(a: &[u32], c: usize) -> usize
 }
 
 // Where the check walk has come to, and how many chunks it has met by then.
-#[derive(Drop)]
+#[derive(Clone, Copy)]
 struct Passed {
     at: usize,
     met: usize,

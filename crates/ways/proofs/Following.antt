@@ -33,7 +33,7 @@ open_followed {way} {a} {after} {block} {granted} other f = go way f
     go shut f = absurd (let e = f.answers in let z : ◌≡◌ {A = ℕ} 0 1 = cc in omega arith)
     go (grants block' granted' words) f = f
 
-module _ {a : List ℕ} {link chunk need w : ℕ} where
+module _ {a : List ℕ} {link chunk : ℕ} (need w : ℕ) where
   -- the block stays
   pub regrants_here : {block granted : ℕ} {after : List ℕ} → FollowsAt resized a link chunk need w (Grants block granted) after
       → FollowsAt regranted a link chunk need w (Grants block granted) after

@@ -16,7 +16,7 @@ use passes::places::Place;
 use stores::taking::Piece;
 
 // What a call that grants comes to: a block and its granted words, or nothing, and then nothing was changed.
-#[derive(Drop)]
+#[derive(Clone, Copy)]
 pub enum Way {
     Grants(u32, u32),
     Shut,

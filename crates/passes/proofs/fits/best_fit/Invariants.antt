@@ -2,14 +2,9 @@
 -- the free list, in which a chunk may undercut the best so far.
 -- The measure is what is left of the words.
 use Prim.Native.Nat.{ℕ, ◌-◌}
-use mathlib.Core.Path.{sym, ◌∙◌}
-use mathlib.Core.Logic.{⊎_elim}
-use mathlib.Core.List.{List, ◌∷◌}
-use native.Mathlib.Omega.{arith}
-use lib.ListN.{length, get_or}
-use borrow.Author.Tests.{le-leb, lt-leb}
-use Rattle.layout.proofs.Chain.{chain_ends, chain_goes_on}
-use Rattle.passes.proofs.Undercutting.{Undercutting, undercut_begins, undercut_ends, undercut_exact, undercut_takes, undercut_passes}
+use mathlib.Core.List.{List}
+use lib.ListN.{length}
+use Rattle.passes.proofs.Undercutting.{Undercutting}
 use Rattle.passes.proofs.fits.best_fit.Given as goal
 
 abbrev pub invariant-loop-least : goal.invariant-loop-least

@@ -1,16 +1,15 @@
 -- `fits::first_fit` meets its contract. The loop's invariant: from word `link` on the links lead through what is left
 -- of the free list.
 -- The measure is what is left of the words.
-use Prim.Native.Nat.{ℕ, ◌-◌}
+use Prim.Native.Nat.{ℕ}
 use mathlib.Core.Path.{refl, sym, ◌∙◌}
 use mathlib.Core.List.{List, ◌∷◌}
 use native.Mathlib.Omega.{arith}
-use lib.ListN.{length, get_or}
+use lib.ListN.{get_or}
 use borrow.Author.Tests.{le-leb, lt-leb}
 use Rattle.layout.proofs.Chain.{chain_ends, chain_goes_on}
 use Rattle.rules.specs.Fits.{fits}
 use Rattle.passes.proofs.Searching.{Seeking, seek_begins, seek_stops, seek_goes_on}
-use Rattle.std.proofs.Common.{rules}
 use Rattle.passes.proofs.fits.first_fit.Goals as goal
 
 pub loop-need-init : goal.loop-need-init

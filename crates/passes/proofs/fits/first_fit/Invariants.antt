@@ -2,14 +2,10 @@
 -- of the free list.
 -- The measure is what is left of the words.
 use Prim.Native.Nat.{ℕ, ◌-◌}
-use mathlib.Core.Path.{refl, sym, ◌∙◌}
-use mathlib.Core.List.{List, ◌∷◌}
-use native.Mathlib.Omega.{arith}
-use lib.ListN.{length, get_or}
-use borrow.Author.Tests.{le-leb, lt-leb}
-use Rattle.layout.proofs.Chain.{chain_ends, chain_goes_on}
+use mathlib.Core.List.{List}
+use lib.ListN.{length}
 use Rattle.rules.specs.Fits.{fits}
-use Rattle.passes.proofs.Searching.{Seeking, seek_begins, seek_stops, seek_goes_on}
+use Rattle.passes.proofs.Searching.{Seeking}
 use Rattle.passes.proofs.fits.first_fit.Given as goal
 
 abbrev pub invariant-loop-need : goal.invariant-loop-need

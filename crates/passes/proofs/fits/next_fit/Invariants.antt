@@ -2,20 +2,10 @@
 -- the free list, in which the first chunk is looked for that fits from the rover on.
 -- The measure is what is left of the words.
 use Prim.Native.Nat.{ℕ, ◌-◌}
-use mathlib.Core.Path.{◌≡◌, refl, sym, ap, ◌∙◌}
-use mathlib.Core.Logic.{⊎_elim}
-use mathlib.Core.Bool.{Bool, true, false, ◌&&◌}
-use mathlib.Core.List.{List, ◌∷◌}
-use native.Mathlib.Omega.{arith}
-use lib.Dec.{leb}
-use lib.ListN.{length, get_or}
-use borrow.Author.Tests.{le-leb, lt-leb}
-use Rattle.layout.proofs.Chain.{chain_ends, chain_goes_on}
-use Rattle.layout.specs.Walk.{chunks_of}
+use mathlib.Core.List.{List}
+use lib.ListN.{length}
 use Rattle.rules.specs.Fits.{fits_from}
-use Rattle.passes.specs.Places.{place_of}
-use Rattle.passes.proofs.Searching.{Seeking, seek_begins, seek_stops, seek_goes_on}
-use Rattle.passes.proofs.Finding.{found_from_rover, found_round}
+use Rattle.passes.proofs.Searching.{Seeking}
 use Rattle.passes.proofs.fits.next_fit.Given as goal
 
 abbrev pub invariant-loop-rover : goal.invariant-loop-rover

@@ -1,28 +1,15 @@
 -- `places::find` meets its contract. The loop's invariant: the chunks from `chunk` on are left, and `link` is the
 -- second word of the last free one before them, or the list's first word.
 -- The measure is what is left of the words.
-use Prim.Native.Nat.{◌+◌, ◌-◌, ◌≤◌, ◌<◌}
-use mathlib.Core.Path.{◌≡◌, refl, sym, ◌∙◌}
-use mathlib.Core.Bool.{Bool, true, false, not}
-use mathlib.Core.Logic.{⊎_elim}
-use mathlib.Core.List.{List}
+use Prim.Native.Nat.{◌+◌, ◌≤◌, ◌<◌}
+use mathlib.Core.Path.{◌≡◌, sym, ◌∙◌}
 use native.Mathlib.Omega.{arith}
 use lib.ListN.{length, get_or}
 use Rattle.layout.specs.Numbers.{least_size, header_words}
-use Rattle.layout.specs.Chunks.{Chunk}
 use Rattle.passes.proofs.Passing.{size_here, live_here, free_here}
-use Rattle.passes.proofs.Searching.{Going, search_begins, search_in_vain, search_stops, search_past_live, search_past_free, search_above}
-use Rattle.std.proofs.Common.{rules}
+use Rattle.passes.proofs.Searching.{search_begins, search_in_vain, search_stops, search_past_live, search_past_free, search_above}
 use Rattle.passes.proofs.places.find.Goals as goal
-
--- what a test that is turned round says
-not-true : (b : Bool) → not b ≡ true → b ≡ false
-not-true true e =  sym e
-not-true false e =  refl
-
-not-false : (b : Bool) → not b ≡ false → b ≡ true
-not-false true e =  refl
-not-false false e =  sym e
+use Rattle.passes.proofs.places.find.Goals.{then-not-is_live, else-not-is_live}
 
 pub returns-then-a-b : goal.returns-then-a-b
 returns-then-a-b c = search_in_vain _ _ c.requires c.if-a-b.true
@@ -40,25 +27,22 @@ loop-chunk-smaller c =
     let inside : c.loop-chunk.chunk < length c.args.a.now = omega (arith, c.loop-chunk-test.true, c.if-a-b.false) in
     let sized : let a = c.args.a.now in
     let chunk = c.loop-chunk.chunk in
-    (least_size ≤ get_or a chunk 0) × (chunk + get_or a chunk 0 ≤ length a) = let (ks, g) = c.loop-chunk.invariant in size_here _ _ ks g.false inside in
+    (least_size ≤ get_or a chunk 0) × (chunk + get_or a chunk 0 ≤ length a) = let (ks, g) = c.loop-chunk.invariant in size_here _ _ ks g.left inside in
     omega (arith, sized, c.wide-chunk.ensures)
 
 pub loop-chunk-preserved : goal.loop-chunk-preserved
 loop-chunk-preserved c =
     let inside : c.loop-chunk.chunk < length c.args.a.now = omega (arith, c.loop-chunk-test.true, c.if-a-b.false) in
-    let d = c in
-    let live = d in
-    let i = live in
-    let (ks, g) = i.loop-chunk.invariant in
-    ⊎_elim
-    (λ w.
-    let (ls, e) = free_here _ _ ks g.false inside (sym live.is_live.ensures ∙ not-true _ w.0.true) in
-    (ls, rw (w.1, c.wide-chunk.ensures) (search_past_free _ _ _ _ _ ls (rw e at g))))
-    (λ w.
-    let (asked, ls, e) = live_here _ _ ks g.false inside (sym live.is_live.ensures ∙ not-false _ w.0.false) in
-    let other : i.loop-chunk.chunk + header_words ≡ c.args.b → ⊥ = omega (arith, i.loop-chunk-test.true) in
-    (ls, rw (w.1, c.wide-chunk.ensures) (search_past_live _ _ _ _ _ asked ls (rw e at g) other)))
-    d.if-not-is_live.branch
+    let (ks, g) = c.loop-chunk.invariant in
+    elim c.if-not-is_live.branch [
+      | then-not-is_live w ↦
+          let (ls, e) = free_here _ _ ks g.left inside (sym c.is_live.ensures ∙ w.if-not-is_live.true) in
+          (ls, rw (w.link-is, c.wide-chunk.ensures) (search_past_free _ _ _ _ _ ls (rw e at g)))
+      | else-not-is_live w ↦
+          let (asked, ls, e) = live_here _ _ ks g.left inside (sym c.is_live.ensures ∙ w.if-not-is_live.false) in
+          let other : c.loop-chunk.chunk + header_words ≡ c.args.b → ⊥ = omega (arith, c.loop-chunk-test.true) in
+          (ls, rw (w.link-is, c.wide-chunk.ensures) (search_past_live _ _ _ _ _ asked ls (rw e at g) other))
+    ]
 
 pub returns-then-chunk-start : goal.returns-then-chunk-start
 returns-then-chunk-start c =
@@ -70,14 +54,14 @@ returns-then-not-is_live-2 c =
     let reached : c.loop-chunk.chunk < length c.args.a.now = omega (arith, c.if-chunk-start.false, c.if-a-b.false) in
     let found = c in
     let (ks, g) = found.loop-chunk.invariant in
-    let (ls, e) = free_here _ _ ks g.false reached (sym c.is_live-2.ensures ∙ not-true _ c.if-not-is_live-2.true-raw) in
+    let (ls, e) = free_here _ _ ks g.left reached (sym c.is_live-2.ensures ∙ c.if-not-is_live-2.true) in
     search_above _ _ _ _ ls (search_past_free _ _ _ _ _ ls (rw e at g))
-    (omega (arith, found.if-chunk-start.false, found.if-b-lt-HEADER_WORDS.false, size_here _ _ ks g.false reached))
+    (omega (arith, found.if-chunk-start.false, found.if-b-lt-HEADER_WORDS.false, size_here _ _ ks g.left reached))
 
 pub returns : goal.returns
 returns c =
     let reached : c.loop-chunk.chunk < length c.args.a.now = omega (arith, c.if-chunk-start.false, c.if-a-b.false) in
     let found = c in
     let (ks, g) = found.loop-chunk.invariant in
-    let (asked, ls, e) = live_here _ _ ks g.false reached (sym c.is_live-2.ensures ∙ not-false _ c.if-not-is_live-2.false-raw) in
+    let (asked, ls, e) = live_here _ _ ks g.left reached (sym c.is_live-2.ensures ∙ c.if-not-is_live-2.false) in
     search_stops _ _ _ _ _ asked ls (rw e at g) (omega (arith, found.if-chunk-start.false, found.if-b-lt-HEADER_WORDS.false))

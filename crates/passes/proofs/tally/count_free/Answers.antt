@@ -7,12 +7,9 @@ use mathlib.Core.List.{List, ◌∷◌}
 use native.Mathlib.Omega.{arith}
 use lib.ListN.{get_or}
 use Rattle.layout.specs.Numbers.{list_word, header_words}
-use Rattle.layout.specs.Walk.{chunks_of}
 use Rattle.layout.proofs.Round.{sound_chunks}
 use Rattle.layout.proofs.Chain.{chain_ends, chain_goes_on}
-use Rattle.rules.specs.Rules.{free_chunks}
 use Rattle.passes.proofs.Tallying.{CountingFree, free_begins, free_goes_on, free_ends}
-use Rattle.std.proofs.Common.{rules}
 use Rattle.passes.proofs.tally.count_free.Goals as goal
 
 pub bounds-a-1 : goal.bounds-a-1

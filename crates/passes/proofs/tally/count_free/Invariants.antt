@@ -1,17 +1,13 @@
 -- `tally::count_free` meets its contract. The loop's invariant: a link names `chunk`, and from there on the links lead
 -- through what is left of the free list.
 -- The measure is how many free chunks are left.
-use Prim.Native.Nat.{ℕ, ◌-◌, max}
-use mathlib.Core.Path.{◌≡◌, sym, ◌∙◌}
-use mathlib.Core.List.{List, ◌∷◌}
-use native.Mathlib.Omega.{arith}
+use Prim.Native.Nat.{ℕ, ◌-◌}
+use mathlib.Core.Path.{◌≡◌}
+use mathlib.Core.List.{List}
 use lib.ListN.{get_or}
-use Rattle.layout.specs.Numbers.{list_word, header_words}
 use Rattle.layout.specs.Walk.{chunks_of}
-use Rattle.layout.proofs.Round.{sound_chunks}
-use Rattle.layout.proofs.Chain.{chain_ends, chain_goes_on}
 use Rattle.rules.specs.Rules.{free_chunks}
-use Rattle.passes.proofs.Tallying.{CountingFree, free_begins, free_goes_on, free_ends}
+use Rattle.passes.proofs.Tallying.{CountingFree}
 use Rattle.passes.proofs.tally.count_free.Given as goal
 
 abbrev pub invariant-loop-chunk : goal.invariant-loop-chunk

@@ -1,0 +1,20 @@
+-- One word more is stored; and at the end no four bytes are left.
+use Prim.Native.Nat.{◌+◌, ◌*◌}
+use mathlib.Core.List.{[], ◌∷◌}
+use native.Mathlib.Omega.{arith}
+use Rattle.spelling.proofs.Filling.{filled_on, filled}
+use Rattle.spelling.proofs.Words.{words_next, no_words}
+use Rattle.spelling.proofs.load.Goals as goal
+
+pub loop-i-preserved : goal.loop-i-preserved
+loop-i-preserved c =
+    let x = c.args in
+    let i = c.loop-i.i in
+    let e = rw (← c.word.ensures) at (words_next x.bytes.now (4 * i) (4 * (i + 1)) (omega arith) (omega arith)) in
+    filled_on x.words.now _ i (i + 1) (c.word.result ∷ []) _ (omega arith) (omega arith) e c.loop-i.invariant
+
+pub returns : goal.returns
+returns c =
+    let x = c.args in
+    let i = c.loop-i.i in
+    filled x.words.now _ i (omega arith) (no_words x.bytes.now (4 * i) (omega arith)) c.loop-i.invariant

@@ -1,0 +1,2 @@
+-- How a loop over lent records stores its answers.
+mod Filling
