@@ -24,7 +24,9 @@ gaps_in p (live s asked ∷ ks) = p ∷ gaps_in 0 ks
 
 -- they are those that the blocks of `ks` leave from word `c` on, where `ks` begin at word `d`
 pub gaps_blocks : (n c d p : ℕ) (ks : List Chunk) → d ≡ c + p → n ≡ d + total ks → Sizes ks → gaps_from n c (blocks_from d ks) ≡ gaps_in p ks
-gaps_blocks n c d p [] e f z = ap (λ (m : ℕ). m ∷ []) (omega arith)
+gaps_blocks n c d p [] e f z =
+    let last : gap_from n c [] ∷ [] ≡ p ∷ [] = ap (λ (m : ℕ). m ∷ []) (omega arith) in
+    last
 gaps_blocks n c d p (free s ∷ ks) e f z = gaps_blocks n c (d + s) (p + s) ks (omega arith) (omega arith) z.2
 gaps_blocks n c d p (live s asked ∷ ks) e f z =
     let own : d + header_words - header_words - c ≡ p = omega arith in
@@ -34,9 +36,9 @@ gaps_blocks n c d p (live s asked ∷ ks) e f z =
 
 -- the first gap has at least the words that stand before
 before_shorter : (need p : ℕ) (ks : List Chunk) → EachShorter need (gaps_in p ks) → p < need
-before_shorter need p [] h = h.0
+before_shorter need p [] h = omega (arith, h.0)
 before_shorter need p (free s ∷ ks) h = omega (arith, before_shorter need (p + s) ks h)
-before_shorter need p (live s asked ∷ ks) h = h.0
+before_shorter need p (live s asked ∷ ks) h = omega (arith, h.0)
 
 -- where every gap is shorter, so is every free chunk
 gaps_free : (need p : ℕ) (pre : List Chunk) (s : ℕ) (post : List Chunk) → EachShorter need (gaps_in p (pre ++ free s ∷ post)) → s < need

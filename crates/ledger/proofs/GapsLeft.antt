@@ -77,8 +77,8 @@ module _ (policies : Policies) (fitting : AllFitting policies) where
   listed_crumbs calls few n s run e listed =
       let g = run_agrees policies fitting run in
       let (above, k) = listed_chunked n s.words s.ledger g e listed in
-      rw (block_whole n s.words s.ledger g above e k)
-      (by_arena run (calls e.block) (crumb k.s) (few s.words e.block k.pre k.s k.asked k.post (chunked_block k)))
+      let more = by_arena run (calls e.block) (crumb k.s) (few s.words e.block k.pre k.s k.asked k.post (chunked_block k)) in
+      omega (arith, more, ap crumb (block_whole n s.words s.ledger g above e k))
 
   pub crumbs_after_free : OneCrumbMore (library_by policies) free
   crumbs_after_free = listed_crumbs free free_crumbs

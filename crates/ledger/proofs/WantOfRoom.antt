@@ -1,7 +1,7 @@
 -- When alloc, relocate and realloc are refused for want of room, when a resize would move its block, and what a block
 -- beside a gap is granted, told by the ledger: the gaps that its blocks leave are the arena's free chunks, and gaps of
 -- 0 words.
-use mathlib.Core.Path.{◌≡◌, refl, sym, ap, ◌∙◌}
+use mathlib.Core.Path.{◌≡◌, sym, ap, ◌∙◌}
 use mathlib.Core.Logic.Iff
 use mathlib.Core.Logic.{◌↔◌}
 use mathlib.Core.Bool.{true, false}
@@ -9,7 +9,7 @@ use mathlib.Core.List.{List, [], ◌∷◌, ◌++◌}
 use Prim.Native.Nat.{ℕ, ◌+◌, ◌-◌, ◌≤◌, ◌<◌}
 use native.Mathlib.Omega.{arith}
 use lib.ListN.{length}
-use Rattle.layout.specs.Numbers.{control_words, first_chunk, header_words, need}
+use Rattle.layout.specs.Numbers.{first_chunk, header_words, need}
 use Rattle.layout.specs.Chunks.{Chunk, free, live, total}
 use Rattle.layout.specs.Walk.{sound, chunks_of}
 use Rattle.layout.specs.Reasons.{number}
@@ -56,7 +56,7 @@ module _ (n : ℕ) (a : List ℕ) (ledger : Ledger) (agrees : Agrees n a ledger)
   pub gaps_agree : gaps n ledger ≡ gaps_in 0 (chunks_of a)
   gaps_agree =
       let law = agrees_lawful n a ledger agrees in
-      rw agrees.lists (gaps_blocks n control_words first_chunk 0 (chunks_of a) refl (sym law.fills) law.sizes)
+      rw agrees.lists (gaps_blocks n _ first_chunk 0 (chunks_of a) (omega arith) (sym law.fills) law.sizes)
 
   pub no_gap : (w : ℕ) → NoGap a (need w) ↔ EachShorter (need w) (gaps n ledger)
   no_gap w =
@@ -91,7 +91,10 @@ module _ (n : ℕ) (a : List ℕ) (ledger : Ledger) (agrees : Agrees n a ledger)
             rw (same.0, same.1) at short,
         λ short. (k.pre, k.s, k.asked, k.post, is, short),
       ) in
-      rw (block_room above e k) (Iff.trans own (short_room k.s k.post (need w)))
+      let by_chunks = Iff.trans own (short_room k.s k.post (need w)) in (
+        λ short. omega (arith, block_room above e k, by_chunks.0 short),
+        λ short. by_chunks.1 (omega (arith, block_room above e k, short)),
+      )
 
   lawful_request : (w : ℕ) → LawfulRequest n w → LawfulRequest (length a) w
   lawful_request w r = (r.0, omega (arith, agrees.long))

@@ -80,4 +80,5 @@ unstarted request board none calls = refused_whole Length request board (go requ
 -- so is a start with more words than the board has
 pub start_too_long : (n : ℕ) (board : Board) → length board.words < n → replied (Start n) board ≡ refused_for Length (Start n) board
 unfolding outcome_of
-start_too_long n board more = refused_whole Length (Start n) board (((start_behaves (lent_for n board)).refused Length).1 (refl, rw (lt-leb _ _ more)))
+start_too_long n board more =
+    refused_whole Length (Start n) board (((start_behaves (lent_for n board)).refused Length).1 (refl, rw (lt-leb _ _ more)))

@@ -39,7 +39,7 @@ use Rattle.rules.proofs.BlockNumbers.{relocated_elsewhere}
 -- ---- one stretch of free words
 
 crumb_most : (words : ℕ) → crumb words ≤ 1
-crumb_most words = go (ltb 0 words && ltb words least_split)
+crumb_most words = go _
   where
     go : (is : Bool) → cond is 1 0 ≤ 1
     go true = omega arith
@@ -47,7 +47,7 @@ crumb_most words = go (ltb 0 words && ltb words least_split)
 
 -- what is long enough to be split off is none
 no_crumb : (words : ℕ) → least_split ≤ words → crumb words ≡ 0
-no_crumb words long = rw (le-ltb words least_split long) (go (ltb 0 words))
+no_crumb words long = ap (λ (few : Bool). cond (ltb 0 words && few) 1 0) (le-ltb words _ (omega (arith, long))) ∙ go (ltb 0 words)
   where
     go : (some : Bool) → ◌≡◌ {A = ℕ} (cond (some && false) 1 0) 0
     go true = refl

@@ -1,6 +1,6 @@
 -- How long a picture is, that it is in upper case, and that its words stand at their places.
 use Prim.Native.Nat.{ℕ, zero, suc, ◌+◌, ◌-◌, ◌*◌, ◌%◌, ◌<◌, min}
-use mathlib.Core.Path.{◌≡◌, refl, ap, ap₂, ◌∙◌}
+use mathlib.Core.Path.{◌≡◌, refl, sym, ap, ap₂, ◌∙◌}
 use mathlib.Core.List.{List, [], ◌∷◌, ◌++◌, map, append_assoc}
 use native.Mathlib.Omega.{arith}
 use lib.ListN.{length, take, drop, length-append, length-take, length-drop, take-append-drop}
@@ -24,6 +24,10 @@ pub line_length_lem : (kind number : ℕ) (ws : List ℕ) → length (line kind 
 unfolding line
 line_length_lem kind number ws = omega (arith, length-append (in_digits eight_digits ws) (line_end ∷ []), words_length ws)
 
+-- behind a frame stand as many frames as the words that are left take
+frames_left : (n more : ℕ) → suc more ≡ frames_for n → more ≡ frames_for (n - frame_words)
+frames_left n more e = omega arith
+
 pub frames_length : (more at : ℕ) (ws : List ℕ) → more ≡ frames_for (length ws) → length (frames_from more at ws) ≡ length ws * 8 + more * 7
 unfolding frames_from
 frames_length zero at ws e = omega arith
@@ -32,8 +36,10 @@ frames_length (suc more) at ws e =
     let behind = drop frame_words ws in
     let long = length-take frame_words ws in
     let left = length-drop frame_words ws in
-    let rest = frames_length more (at + frame_words) behind (omega arith) in
-    length-append (frame at front) (frames_from more (at + frame_words) behind) ∙ omega (arith, line_length_lem 7 at front)
+    let rest = frames_length more (at + frame_words) behind (frames_left (length ws) more e ∙ ap frames_for (sym left)) in
+    let whole : length (frames_from (suc more) at ws) ≡ length (frame at front) + length (frames_from more (at + frame_words) behind) =
+    length-append (frame at front) (frames_from more (at + frame_words) behind) in
+    omega (arith, whole, line_length_lem 7 at front)
 
 pub picture_length_lem : (ws : List ℕ) → length (picture_of ws) ≡ picture_length (length ws)
 unfolding line picture_of
@@ -94,7 +100,7 @@ frames_standing (suc more) at left ws e m fits =
     ap₂ ◌++◌ (ap (words_in (min frame_words left)) (append_assoc (in_digits eight_digits front) (line_end ∷ []) rest)
     ∙ words_read front (line_end ∷ rest) (min frame_words left) long low)
     (ap (standing_from more (left - frame_words)) (drop_at (frame at front) rest (line_length (min frame_words left)) (omega (arith, line_length_lem 7 at front)))
-    ∙ frames_standing more (at + frame_words) (left - frame_words) behind (omega (arith, length-drop frame_words ws)) (omega arith) high)
+    ∙ frames_standing more (at + frame_words) (left - frame_words) behind (omega (arith, length-drop frame_words ws)) (frames_left left more m) high)
     ∙ take-append-drop frame_words ws
 
 pub picture_standing : (ws : List ℕ) → length ws < four_digit_values → AllBelow word_values ws → standing (picture_of ws) ≡ ws
@@ -156,4 +162,4 @@ standing_count_lem zero left text m = omega arith
 standing_count_lem (suc more) left text m =
     let count = min frame_words left in
     length-append (words_in count (drop line_head text)) (standing_from more (left - frame_words) (drop (line_length count) text))
-    ∙ omega (arith, words_count count (drop line_head text), standing_count_lem more (left - frame_words) (drop (line_length count) text) (omega arith))
+    ∙ omega (arith, words_count count (drop line_head text), standing_count_lem more (left - frame_words) (drop (line_length count) text) (frames_left left more m))

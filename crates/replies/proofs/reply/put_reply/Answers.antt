@@ -6,9 +6,10 @@ use Rattle.replies.proofs.ReplyTexts.{fields_length, reply_put}
 use Rattle.replies.proofs.reply.put_reply.Goals as goal
 use Rattle.replies.proofs.reply.put_reply.Goals.{After-put_fields-end}
 
--- the fields end before the room does
-room_left : (c : After-put_fields-end) → (c.put_fields-end.result ≡ c.args.at + 4 + c.args.numbers.count * 4) × (length c.put_fields-end.new.out ≡ length c.args.out.now)
-room_left c =
+-- where the fields end, in a text that stays as long as it was
+fields_end : (c : After-put_fields-end) → let x = c.args in
+    (c.put_fields-end.result ≡ x.at + 4 + x.numbers.count * 4) × (length c.put_fields-end.new.out ≡ length x.out.now)
+fields_end c =
     let x = c.args in
     let counted = length-take-le _ _ c.requires.0 in (
       omega (arith, c.put_fields-end.ensures.ends, fields_length (take x.numbers.count x.numbers.fields), counted),
@@ -16,10 +17,10 @@ room_left c =
     )
 
 pub bounds-out-end : goal.bounds-out-end
-bounds-out-end c = omega (arith, room_left (goal.at.bounds-out-end c).After-put_fields-end, c.requires.1)
+bounds-out-end c = omega (arith, fields_end (goal.at.bounds-out-end c).After-put_fields-end, c.requires.1)
 
 pub overflow_add-result : goal.overflow_add-result
-overflow_add-result c = record { fits = omega (arith, room_left (goal.at.overflow_add-result c).After-put_fields-end, c.requires.1) }
+overflow_add-result c = record { fits = omega (arith, fields_end (goal.at.overflow_add-result c).After-put_fields-end, c.requires.1) }
 
 pub returns : goal.returns
 returns c = reply_put _ _ _ _ _ _ _ _ _ c.put_two.ensures c.put_two-2.ensures c.put_fields-end.ensures
