@@ -1,2 +1,3 @@
--- What all turns come to.
+-- What a turn shows, and what all turns come to.
+pub mod Turning
 pub mod Runs
