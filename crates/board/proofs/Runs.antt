@@ -15,7 +15,7 @@ use Rattle.lines.specs.Sessions.{Session, begun, next}
 use Rattle.lines.specs.declared.Heard.{Heard}
 use Rattle.lines.proofs.Hearing.{heard_whole, ending_short}
 use Rattle.lines.proofs.Sessions.{session_means}
-use Rattle.board.specs.Turns.{GoesOn, Ended}
+use Rattle.board.specs.Turns.{Continues, Finishes}
 
 -- from the words `start` on: a text was read, which left the reader so, and all that was said to it is written
 pub record SoFar (start : List ℕ) (left left' held held' : Option (List ℕ)) (place : Place) (lent : ℕ) (words : List ℕ) : Type 0 where
@@ -32,7 +32,7 @@ nothing_yet start left held =
 -- a turn that goes on
 pub turn_on : {start words words' piece room text : List ℕ} {left left' left'' held held' held'' : Option (List ℕ)} {place : Place} {lent : ℕ} {heard : Heard}
     → length piece * longest_reply ≤ length room → SoFar start left left' held held' place lent words
-    → GoesOn place (board_of words lent) piece room heard words' text left' left'' held' held''
+    → Continues place (board_of words lent) piece room heard words' text left' left'' held' held''
     → SoFar start left left'' held held'' heard.place heard.lent words'
 turn_on {start} {words' = words'} {piece = piece} {room = room} {text = text} {heard = heard} roomy so on =
     let came = take heard.taken piece in
@@ -51,7 +51,7 @@ turn_on {start} {words' = words'} {piece = piece} {room = room} {text = text} {h
 -- the last turn
 pub turn_last : {start words words' piece room text : List ℕ} {left left' held held' held'' : Option (List ℕ)} {place : Place} {lent : ℕ} {heard : Heard}
     → longest_reply ≤ length room → SoFar start left left' held held' place lent words
-    → Ended place (board_of words lent) piece room heard words' text left' held' held''
+    → Finishes place (board_of words lent) piece room heard words' text left' held' held''
     → 0 < length piece → IfSome left (λ all. Appends held held'' (means all (lending start 0)).reply)
 turn_last {start} {words' = words'} {room = room} {text = text} {held = held} {held'' = held''} {place = place} {heard = heard} roomy so last some =
     let whole = heard_whole (ending place) room (omega (arith, roomy, ending_short place)) in

@@ -18,14 +18,14 @@ pub data Turned (place : Place) (board : Board) (piece room : List ℕ) (heard :
 
 -- after this turn there may be more to come: the bytes that came were read, what a reader had left before and after it,
 -- and their replies are written, what a writer held
-pub record GoesOn (place : Place) (board : Board) (piece room : List ℕ) (heard : Heard) (words text : List ℕ)
+pub record Continues (place : Place) (board : Board) (piece room : List ℕ) (heard : Heard) (words text : List ℕ)
     (left left' held held' : Option (List ℕ)) : Type 0 where
   pub hears : HearsAll place board (take heard.taken piece) room heard words text
   pub reads : Consumes left left' (take heard.taken piece)
   pub writes : Appends held held' (take heard.written text)
 
 -- this turn was the last, and left nothing out: there was nothing more to read, and the last replies are written
-pub record Ended (place : Place) (board : Board) (piece room : List ℕ) (heard : Heard) (words text : List ℕ)
+pub record Finishes (place : Place) (board : Board) (piece room : List ℕ) (heard : Heard) (words text : List ℕ)
     (left held held' : Option (List ℕ)) : Type 0 where
   pub hears : HearsAll place board (ending place) room heard words text
   pub reads : 0 < length piece → IsAtEnd left

@@ -7,7 +7,7 @@ ghost use Rattle.std.specs.Io.KnownBytes.{Appends};
 ghost use Rattle.replies.specs.Boards.{lending, longest_reply};
 ghost use Rattle.lines.specs.Pieces.{board_of, ending, HearsAll};
 ghost use Rattle.lines.specs.Texts.{means};
-ghost use Rattle.board.specs.Turns.{Roomy, Turned, GoesOn, Ended};
+ghost use Rattle.board.specs.Turns.{Roomy, Turned, Continues, Finishes};
 
 use lines::Heard;
 use std::io::{Read, Write};
@@ -60,10 +60,10 @@ fn turn<R: Read, W: Write>(
     requires { Roomy piece.old out.old }
     ensures turned { Turned carried.heard.place (board_of words.old carried.heard.lent)
         piece.new out.old result.heard words.new out.new }
-    ensures goes_on { IsTrue result.goes_on → GoesOn carried.heard.place
+    ensures goes_on { IsTrue result.goes_on → Continues carried.heard.place
         (board_of words.old carried.heard.lent) piece.new out.old result.heard words.new out.new
         (R.remaining input.old) (R.remaining input.new) (W.contents output.old) (W.contents output.new) }
-    ensures ended { IsTrue result.is_answered → Ended carried.heard.place
+    ensures ended { IsTrue result.is_answered → Finishes carried.heard.place
         (board_of words.old carried.heard.lent) piece.old out.old result.heard words.new out.new
         (R.remaining input.old) (W.contents output.old) (W.contents output.new) }
 {
