@@ -1,5 +1,5 @@
 // A request of a batch: a call by its kind, and its answer as the request's record has it. The loop over a lent list of
-// records is `zv_batch`, for C; nothing that is proved can call a function that is lent records.
+// records is `zv_batch`, for C.
 #![tactic(auto)]
 
 pub mod words;
