@@ -3,8 +3,8 @@ use Rattle.std.specs.Prelude.{ℕ, ◌≤◌, List, length}
 use Rattle.layout.specs.Numbers.{need, greatest_length}
 use Rattle.layout.specs.Walk.{chunks_of}
 use Rattle.layout.specs.Reasons.{arena_gate, request_gate}
-use Rattle.layout.specs.declared.Gate.{Gate}
-use Rattle.layout.specs.declared.Gate.TheVariants.{Open, Shut}
+use Rattle.layout.specs.Reasons.{Gate}
+use Rattle.std.specs.Prelude.{Ok, Err}
 use Rattle.layout.specs.declared.Reason.{Reason}
 use Rattle.layout.specs.declared.Reason.TheVariants.{NotABlock, NoRoom}
 use Rattle.rules.specs.Answers.{settle, Gives}
@@ -18,7 +18,7 @@ use Rattle.passes.specs.declared.places.Place.{Place}
 use Rattle.passes.specs.declared.places.Place.TheVariants.{At, Nowhere}
 use Rattle.ways.specs.Ways.{allotting, PickedAt}
 use Rattle.ways.specs.declared.Way.{Way}
-use Rattle.ways.specs.declared.Way.TheVariants.{Grants, Shut as NoWay}
+use Rattle.ways.specs.declared.Way.TheVariants.{Grants, Err as NoWay}
 use Rattle.targets.specs.declared.Asked.{Asked}
 use Rattle.targets.specs.declared.Asked.TheVariants.{Need, Refused as NotAsked}
 use Rattle.targets.specs.declared.Located.{Located}
@@ -28,8 +28,8 @@ use Rattle.targets.specs.declared.Target.TheVariants.{Block, Refused as NoTarget
 
 -- by the request's gate
 abbrev pub asked_by : Gate → ℕ → Asked
-asked_by (Shut why) need = NotAsked why
-asked_by Open need = Need need
+asked_by (Err why) need = NotAsked why
+asked_by (Ok _) need = Need need
 
 -- the need of a request for `n` words in an arena of so many words, or why it is refused
 unfoldable pub need_in : ℕ → ℕ → Asked
@@ -37,8 +37,8 @@ need_in words n = asked_by (request_gate words n) (need n)
 
 -- by the arena's gate
 abbrev pub asked_past : Gate → Asked → Asked
-asked_past (Shut why) asked = NotAsked why
-asked_past Open asked = asked
+asked_past (Err why) asked = NotAsked why
+asked_past (Ok _) asked = asked
 
 -- the need of a request for a new block, or why it is refused: the arena is looked at first, then the request
 unfoldable pub asked_for : List ℕ → ℕ → Asked
@@ -46,9 +46,9 @@ asked_for a n = asked_past (arena_gate a) (need_in (length a) n)
 
 -- by the arena's gate and by what the search for the block answers
 abbrev pub located_by : Gate → Place → Located
-located_by (Shut why) place = NotLocated why
-located_by Open Nowhere = NotLocated NotABlock
-located_by Open (At link chunk) = Chunk link chunk
+located_by (Err why) place = NotLocated why
+located_by (Ok _) Nowhere = NotLocated NotABlock
+located_by (Ok _) (At link chunk) = Chunk link chunk
 
 -- where block `b` stands, or why a call on it is refused: the arena is looked at first, then the block
 unfoldable pub located : List ℕ → ℕ → Located

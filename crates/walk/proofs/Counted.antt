@@ -10,7 +10,7 @@ use Rattle.layout.specs.Numbers.{lawful}
 use Rattle.layout.specs.Chunks.{Chunk}
 use Rattle.layout.specs.Walk.{Walked, broken, whole, is_whole, chunks_in, walked, sound, chunks_of}
 use Rattle.layout.specs.Reasons.{arena_gate}
-use Rattle.layout.specs.declared.Gate.TheVariants.{Open, Shut}
+use Rattle.std.specs.Prelude.{Ok, Err}
 use Rattle.layout.specs.declared.Reason.TheVariants.{Length, Damaged}
 use Rattle.layout.proofs.Holds.{Lawful}
 use Rattle.layout.proofs.Round.{sound_lawful, sound_chunks}
@@ -38,22 +38,22 @@ some_chunks : (n : ℕ) (ks : List Chunk) → Lawful n ks → length ks ≡ 0 �
 some_chunks n [] l q = omega (arith, l.least, l.fills)
 some_chunks n (k ∷ ks) l q = omega arith
 
-pub chunks_open : (a : List ℕ) (n : ℕ) → n ≡ chunk_count a → (n ≡ 0 → ⊥) → (Open ≡ arena_gate a) × (n ≡ length (chunks_of a))
+pub chunks_open : (a : List ℕ) (n : ℕ) → n ≡ chunk_count a → (n ≡ 0 → ⊥) → (Ok tt ≡ arena_gate a) × (n ≡ length (chunks_of a))
 unfolding chunk_count arena_gate
 chunks_open a n e h = go (sound a) refl e
   where
-    go : (b : Bool) → sound a ≡ b → n ≡ cond b (length (chunks_of a)) 0 → (Open ≡ arena_gate a) × (n ≡ length (chunks_of a))
+    go : (b : Bool) → sound a ≡ b → n ≡ cond b (length (chunks_of a)) 0 → (Ok tt ≡ arena_gate a) × (n ≡ length (chunks_of a))
     go true q p = (simp (q, sound_lawful a q), p)
     go false q p = absurd (h p)
 
-pub no_chunks_shut : (a : List ℕ) → 0 ≡ chunk_count a → Shut (fault_of (length a)) ≡ arena_gate a
+pub no_chunks_shut : (a : List ℕ) → 0 ≡ chunk_count a → Err (fault_of (length a)) ≡ arena_gate a
 unfolding chunk_count arena_gate
 no_chunks_shut a e = go (sound a) refl e
   where
-    by_length : (l : Bool) → Shut (cond l Damaged Length) ≡ cond l (Shut Damaged) (Shut Length)
+    by_length : (l : Bool) → Err (cond l Damaged Length) ≡ cond l (Err Damaged) (Err Length)
     by_length true = refl
     by_length false = refl
 
-    go : (b : Bool) → sound a ≡ b → 0 ≡ cond b (length (chunks_of a)) 0 → Shut (fault_of (length a)) ≡ arena_gate a
+    go : (b : Bool) → sound a ≡ b → 0 ≡ cond b (length (chunks_of a)) 0 → Err (fault_of (length a)) ≡ arena_gate a
     go true q p = absurd (some_chunks (length a) (chunks_of a) (sound_chunks a q).law (sym p))
     go false q p = simp q (by_length (lawful (length a)))
