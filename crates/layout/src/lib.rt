@@ -59,6 +59,13 @@ pub fn is_lawful(n: usize) -> bool
     n % 2 == 0 && LEAST_LENGTH <= n && n <= GREATEST_LENGTH
 }
 
+// What a request comes to: how many words a chunk needs for it, and how many were asked for.
+#[derive(Clone, Copy)]
+pub struct Ask {
+    pub need: usize,
+    pub asked: u32,
+}
+
 // The words that a request for `n` needs.
 pub fn need(n: usize) -> usize
     requires { n ≤ greatest_length }
