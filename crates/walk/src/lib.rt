@@ -44,6 +44,7 @@ struct Passed {
 
 // Goes past live chunks from word `c` on, before which `met` chunks were met, and ends where none stands: at a free
 // chunk, at the end, or at words that are no chunk.
+#[tactic(auto, using(crate::proofs::Meeting::size_bounds))]
 fn past_live(a: &[u32], c: usize, met: usize) -> Passed
     requires { (c ≤ length a.now) × (met ≤ c) }
     ensures { PastLive a.now c met result }
@@ -78,6 +79,7 @@ fn met_at_end(want: usize, met: usize) -> Option<usize>
 // `met` of them before `c`, if it does not break. `want` is where the last link says that the next free chunk starts
 // (0: there is none).
 #[cycle(after_free_after_live)]
+#[tactic(auto, using(crate::proofs::Steps::past_laws))]
 fn after_live(a: &[u32], c: usize, want: usize, met: usize) -> Option<usize>
     requires { (c ≤ length a.now) × (met ≤ c) }
     ensures { result ≡ met_by met (walk_from a.now c want false) }
@@ -97,6 +99,7 @@ fn after_live(a: &[u32], c: usize, want: usize, met: usize) -> Option<usize>
 
 // The check walk from word `c`, where a free chunk ends: only a live chunk or the end may follow.
 #[cycle(after_free_after_live)]
+#[tactic(auto, using(crate::proofs::Meeting::place_laws))]
 fn after_free(a: &[u32], c: usize, want: usize, met: usize) -> Option<usize>
     requires { (c ≤ length a.now) × (met ≤ c) }
     ensures { result ≡ met_by met (walk_from a.now c want true) }
@@ -113,6 +116,7 @@ fn after_free(a: &[u32], c: usize, want: usize, met: usize) -> Option<usize>
 }
 
 // How many chunks a sound arena has; or why the words are none: Length, then Damaged.
+#[tactic(auto, using(crate::proofs::Counted::count_laws))]
 pub fn count_chunks(a: &[u32]) -> Result<usize, Reason>
     ensures { result ≡ chunk_count a.now }
 {
@@ -126,6 +130,7 @@ pub fn count_chunks(a: &[u32]) -> Result<usize, Reason>
 }
 
 // The reasons for which words that have to be a sound arena are refused: Length, then Damaged.
+#[tactic(auto, using(crate::proofs::Counted::chunks_open, crate::proofs::Counted::no_chunks_shut))]
 pub fn check_arena(a: &[u32]) -> Result<(), Reason>
     ensures { result ≡ arena_gate a.now }
 {
