@@ -27,10 +27,8 @@ fn size_at(a: &[u32], c: usize) -> Option<usize>
     ensures { result ≡ size_at a.now c }
 {
     let s = a[c] as usize;
-    if s % 2 == 0 && LEAST_SIZE <= s && s <= a.len() - c {
-        if second_fits(s, a[c + 1]) {
-            return Some(s);
-        }
+    if s % 2 == 0 && LEAST_SIZE <= s && s <= a.len() - c && second_fits(s, a[c + 1]) {
+        return Some(s);
     }
     None
 }
@@ -69,10 +67,7 @@ fn past_live(a: &[u32], c: usize, met: usize) -> Passed
 fn met_at_end(want: usize, met: usize) -> Option<usize>
     ensures { result ≡ cond (eqb want 0) (Some met) None }
 {
-    if want == 0 {
-        return Some(met);
-    }
-    None
+    (want == 0).then_some(met)
 }
 
 // The check walk from word `c`, where a live chunk or the control words end: how many chunks it has met at the end,
@@ -84,9 +79,7 @@ fn after_live(a: &[u32], c: usize, want: usize, met: usize) -> Option<usize>
     requires { (c ≤ length a.now) × (met ≤ c) }
     ensures { result ≡ met_by met (walk_from a.now c want false) }
 {
-    let passed = past_live(a, c, met);
-    let at = passed.at;
-    let chunks = passed.met;
+    let Passed { at, met: chunks } = past_live(a, c, met);
     if at == a.len() {
         return met_at_end(want, chunks);
     }
