@@ -29,10 +29,10 @@ one_further {a} {c} {met} {r} {more} {s} come e m =
 -- ---- behind the live chunks
 
 module _ {a : List ℕ} {c met : ℕ} {passed : Passed} (past : PastLive a c met passed) (want : ℕ) where
-  pub past_end : passed.at ≡ length a → cond (eqb want 0) (Some passed.met) None ≡ met_by met (walk_from a c want false)
+  pub past_end : passed.at ≡ length a → cond (eqb want 0) passed.met 0 ≡ met_by met (walk_from a c want false)
   past_end e = at_end a passed.at want false passed.met e ∙ sym (past.comes.same want)
 
-  pub past_no_size : (passed.at ≡ length a → ⊥) → None ≡ size_at a passed.at → None ≡ met_by met (walk_from a c want false)
+  pub past_no_size : (passed.at ≡ length a → ⊥) → None ≡ size_at a passed.at → 0 ≡ met_by met (walk_from a c want false)
   past_no_size n e = no_size a passed.at want false passed.met n e ∙ sym (past.comes.same want)
 
   pub past_free : (s : ℕ) → Some s ≡ size_at a passed.at → want ≡ passed.at
@@ -43,10 +43,10 @@ module _ {a : List ℕ} {c met : ℕ} {passed : Passed} (past : PastLive a c met
       past.comes.same want ∙ on_free a passed.at s e want passed.met (past.stops below (λ q. cc (e, q))) l
 
   -- the last link names another place
-  pub past_off_link : (passed.at ≡ length a → ⊥) → (want ≡ passed.at → ⊥) → None ≡ met_by met (walk_from a c want false)
+  pub past_off_link : (passed.at ≡ length a → ⊥) → (want ≡ passed.at → ⊥) → 0 ≡ met_by met (walk_from a c want false)
   past_off_link n l = go (size_at a passed.at) refl
     where
-      go : (found : Option ℕ) → size_at a passed.at ≡ found → None ≡ met_by met (walk_from a c want false)
+      go : (found : Option ℕ) → size_at a passed.at ≡ found → 0 ≡ met_by met (walk_from a c want false)
       go None e = past_no_size n (sym e)
       go (Some s) e =
           let below : passed.at < length a = omega (arith, past.comes.within, n) in

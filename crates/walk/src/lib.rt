@@ -62,19 +62,19 @@ fn past_live(a: &[u32], c: usize, met: usize) -> Passed
     Passed { at, met: chunks }
 }
 
-// What the check walk answers at the end of the arena: the chunks that it has met, if no link names one more.
-fn met_at_end(want: usize, met: usize) -> Option<usize>
-    ensures { result ≡ cond (eqb want 0) (Some met) None }
+// What the check walk answers at the end of the arena: the chunks that it has met, or 0 where a link still names one.
+fn met_at_end(want: usize, met: usize) -> usize
+    ensures { result ≡ cond (eqb want 0) met 0 }
 {
-    (want == 0).then_some(met)
+    if want == 0 { met } else { 0 }
 }
 
 // The check walk from word `c`, where a live chunk or the control words end: how many chunks it has met at the end,
-// `met` of them before `c`, if it does not break. `want` is where the last link says that the next free chunk starts
-// (0: there is none).
+// `met` of them before `c`, or 0 where it breaks. `want` is where the last link says that the next free chunk starts
+// (0: there is none). An Option comes back in two registers, and the walkers' calls could not be jumps.
 #[cycle(after_free_after_live)]
 #[tactic(auto, using(crate::proofs::Steps::past_laws))]
-fn after_live(a: &[u32], c: usize, want: usize, met: usize) -> Option<usize>
+fn after_live(a: &[u32], c: usize, want: usize, met: usize) -> usize
     requires { (c ≤ length a.now) × (met ≤ c) }
     ensures { result ≡ met_by met (walk_from a.now c want false) }
 {
@@ -83,27 +83,31 @@ fn after_live(a: &[u32], c: usize, want: usize, met: usize) -> Option<usize>
         return met_at_end(want, chunks);
     }
     if want != at {
-        return None;
+        return 0;
     }
-    let s = size_at(a, at)?;
+    let Some(s) = size_at(a, at) else {
+        return 0;
+    };
     after_free(a, at + s, a[at + 1] as usize, chunks + 1)
 }
 
 // The check walk from word `c`, where a free chunk ends: only a live chunk or the end may follow.
 #[cycle(after_free_after_live)]
 #[tactic(auto, using(crate::proofs::Meeting::place_laws))]
-fn after_free(a: &[u32], c: usize, want: usize, met: usize) -> Option<usize>
+fn after_free(a: &[u32], c: usize, want: usize, met: usize) -> usize
     requires { (c ≤ length a.now) × (met ≤ c) }
     ensures { result ≡ met_by met (walk_from a.now c want true) }
 {
     if c == a.len() {
         return met_at_end(want, met);
     }
-    let s = size_at(a, c)?;
+    let Some(s) = size_at(a, c) else {
+        return 0;
+    };
     if is_live(a[c + 1]) {
         after_live(a, c + s, want, met + 1)
     } else {
-        None
+        0
     }
 }
 
@@ -118,7 +122,10 @@ pub fn count_chunks(a: &[u32]) -> Result<usize, Reason>
     if a[0] as usize != a.len() {
         return Err(Reason::Damaged);
     }
-    after_live(a, FIRST_CHUNK, a[LIST_WORD] as usize, 0).ok_or(Reason::Damaged)
+    match after_live(a, FIRST_CHUNK, a[LIST_WORD] as usize, 0) {
+        0 => Err(Reason::Damaged),
+        chunks => Ok(chunks),
+    }
 }
 
 // The reasons for which words that have to be a sound arena are refused: Length, then Damaged.
