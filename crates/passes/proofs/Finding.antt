@@ -6,7 +6,7 @@ use Prim.Native.Nat.{ℕ, ◌+◌, ◌≤◌}
 use native.Mathlib.Omega.{arith}
 use Rattle.std.specs.Prelude.{Option, None, Some, MatchOption}
 use Rattle.layout.specs.Numbers.{first_chunk, header_words}
-use Rattle.layout.specs.Chunks.{Chunk, free, live, total}
+use Rattle.layout.specs.Chunks.{Chunk, free, live}
 use Rattle.layout.specs.Walk.{sound, chunks_of}
 use Rattle.rules.specs.Spots.{Spot, nowhere, at, lowest, held}
 use Rattle.rules.specs.Fits.{fits_from, or_else_at, first_fit_policy, next_fit_policy}

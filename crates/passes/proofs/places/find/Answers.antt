@@ -1,7 +1,7 @@
 -- `places::find` meets its contract. The loop's invariant: the chunks from `chunk` on are left, and `link` is the
 -- second word of the last free one before them, or the list's first word.
 -- The measure is what is left of the words.
-use Prim.Native.Nat.{◌+◌, ◌≤◌, ◌<◌}
+use Prim.Native.Nat.{◌+◌, ◌<◌}
 use mathlib.Core.Path.{◌≡◌, sym, ◌∙◌}
 use native.Mathlib.Omega.{arith}
 use lib.ListN.{length}
