@@ -5,6 +5,7 @@ use mathlib.Core.List.{List}
 use Prim.Native.Nat.{ℕ, ◌+◌, ◌≤◌}
 use native.Mathlib.Omega.{arith}
 use Rattle.std.specs.Prelude.{Option, None, Some, MatchOption}
+use Rattle.std.proofs.lemmas.Option.{same_Some}
 use Rattle.layout.specs.Numbers.{first_chunk, header_words}
 use Rattle.layout.specs.Chunks.{Chunk, free, live}
 use Rattle.layout.specs.Walk.{sound, chunks_of}
@@ -17,8 +18,8 @@ use Rattle.passes.specs.declared.places.Place.{Place}
 
 -- a place, by its two words
 same_place : {link chunk link' chunk' : ℕ} → Some (place_at link chunk) ≡ Some (place_at link' chunk') → (link ≡ link') × (chunk ≡ chunk')
-same_place {link} {chunk} {link'} {chunk'} e =
-    let p : place_at link chunk ≡ place_at link' chunk' = cc in
+same_place e =
+    let p = same_Some _ _ e in
     (ap (λ (x : Place). x.link) p, ap (λ (x : Place). x.chunk) p)
 
 -- a spot is that of the free chunk which starts at `chunk`, and has the need
