@@ -1,6 +1,6 @@
 -- A contract on the numbers leaves no choice: two results that it allows are the same.
 use Prim.Native.Nat.{ℕ}
-use mathlib.Core.Path.{◌≡◌, refl, sym, ap, ◌∙◌}
+use mathlib.Core.Path.{◌≡◌, sym, ap, ◌∙◌}
 use mathlib.Core.List.{List}
 use native.Mathlib.Omega.{arith}
 use Rattle.layout.specs.Reasons.{number}
@@ -9,19 +9,11 @@ use Rattle.layout.proofs.Reasons.{number_positive, number_injective}
 use Rattle.rules.specs.Answers.{Answer, Outcome}
 use Rattle.rules.specs.Calls.{Roves}
 use Rattle.rules.proofs.Rovers.{roves_once}
-use Rattle.answers.specs.Readings.{finish_numbers, granted_numbers, sized_numbers, reported_numbers, written_numbers}
+use Rattle.answers.specs.Readings.{Finish, Granted, Sized, Reported, Written, read, finish_numbers, granted_numbers, sized_numbers, reported_numbers, written_numbers}
 use Rattle.answers.specs.Determined.{Determined}
-use Rattle.answers.specs.declared.Finish.{Finish}
-use Rattle.answers.specs.declared.Finish.TheVariants.{Done, Refused as NotDone}
-use Rattle.answers.specs.declared.Granted.{Granted}
-use Rattle.answers.specs.declared.Granted.TheVariants.{Block, Refused as NotGranted}
+use Rattle.answers.specs.FieldLaws.{FieldLaws, no_field_laws, grant_laws, sizes_laws, counts_laws, one_field_laws}
 use Rattle.answers.specs.declared.Roved.{Roved}
-use Rattle.answers.specs.declared.Sized.{Sized}
-use Rattle.answers.specs.declared.Sized.TheVariants.{Words, Refused as NotSized}
-use Rattle.answers.specs.declared.Reported.{Reported}
-use Rattle.answers.specs.declared.Reported.TheVariants.{Counts, Refused as NotReported}
-use Rattle.answers.specs.declared.Written.{Written}
-use Rattle.answers.specs.declared.Written.TheVariants.{Bytes, Refused as NotWritten}
+use Rattle.std.specs.Prelude.{Result, Ok, Err}
 
 -- ---- an answer in numbers says which answer it was
 
@@ -34,35 +26,28 @@ same_values e = ap (λ (r : Answer). r.values) e
 success_or_refusal : (why : Reason) → 0 ≡ number why → ⊥
 success_or_refusal why e = omega (arith, number_positive why)
 
+-- so where the fields say it, two answers that are read as the same are the same
+pub read_injective : {A : Type 0} {values : A → List ℕ} {count : ℕ} → FieldLaws values count
+    → (r r' : Result A Reason) → read values count r ≡ read values count r' → r ≡ r'
+read_injective laws (Ok it) (Ok other) e = ap Ok (laws.telling it other (same_values e))
+read_injective laws (Ok it) (Err why) e = absurd (success_or_refusal why (same_code e))
+read_injective laws (Err why) (Ok it) e = absurd (success_or_refusal why (same_code (sym e)))
+read_injective laws (Err why) (Err why') e = ap Err (number_injective why why' (same_code e))
+
 pub finish_injective : (r r' : Finish) → finish_numbers r ≡ finish_numbers r' → r ≡ r'
-finish_injective Done Done e = refl
-finish_injective Done (NotDone w) e = absurd (success_or_refusal w (same_code e))
-finish_injective (NotDone w) Done e = absurd (success_or_refusal w (same_code (sym e)))
-finish_injective (NotDone w) (NotDone w') e = ap NotDone (number_injective w w' (same_code e))
+finish_injective = read_injective no_field_laws
 
 pub granted_injective : (r r' : Granted) → granted_numbers r ≡ granted_numbers r' → r ≡ r'
-granted_injective (Block b g) (Block b' g') e = let v = same_values e in cc
-granted_injective (Block b g) (NotGranted w) e = absurd (success_or_refusal w (same_code e))
-granted_injective (NotGranted w) (Block b g) e = absurd (success_or_refusal w (same_code (sym e)))
-granted_injective (NotGranted w) (NotGranted w') e = ap NotGranted (number_injective w w' (same_code e))
+granted_injective = read_injective grant_laws
 
 pub sized_injective : (r r' : Sized) → sized_numbers r ≡ sized_numbers r' → r ≡ r'
-sized_injective (Words n g) (Words n' g') e = let v = same_values e in cc
-sized_injective (Words n g) (NotSized w) e = absurd (success_or_refusal w (same_code e))
-sized_injective (NotSized w) (Words n g) e = absurd (success_or_refusal w (same_code (sym e)))
-sized_injective (NotSized w) (NotSized w') e = ap NotSized (number_injective w w' (same_code e))
+sized_injective = read_injective sizes_laws
 
 pub reported_injective : (r r' : Reported) → reported_numbers r ≡ reported_numbers r' → r ≡ r'
-reported_injective (Counts f l b c) (Counts f' l' b' c') e = let v = same_values e in cc
-reported_injective (Counts f l b c) (NotReported w) e = absurd (success_or_refusal w (same_code e))
-reported_injective (NotReported w) (Counts f l b c) e = absurd (success_or_refusal w (same_code (sym e)))
-reported_injective (NotReported w) (NotReported w') e = ap NotReported (number_injective w w' (same_code e))
+reported_injective = read_injective counts_laws
 
 pub written_injective : (r r' : Written) → written_numbers r ≡ written_numbers r' → r ≡ r'
-written_injective (Bytes n) (Bytes n') e = let v = same_values e in cc
-written_injective (Bytes n) (NotWritten w) e = absurd (success_or_refusal w (same_code e))
-written_injective (NotWritten w) (Bytes n) e = absurd (success_or_refusal w (same_code (sym e)))
-written_injective (NotWritten w) (NotWritten w') e = ap NotWritten (number_injective w w' (same_code e))
+written_injective = read_injective one_field_laws
 
 -- ---- two results, and the words left with each, that give the same outcome
 

@@ -1,3 +1,4 @@
 pub mod Readings
 pub mod Determined
 pub mod Padded
+pub mod FieldLaws

@@ -5,11 +5,12 @@ use Rattle.layout.specs.declared.Reason.{Reason}
 use Rattle.rules.specs.Answers.{Answer, Outcome}
 use Rattle.answers.specs.declared.Numbers.{Numbers}
 
--- four fields, of which those that the answer does not have are 0
+-- four fields, of which those that there are not are 0
+abbrev pub four : List ℕ → List ℕ
+four values = get_or values 0 0 ∷ get_or values 1 0 ∷ get_or values 2 0 ∷ get_or values 3 0 ∷ []
+
 abbrev pub padded : Answer → Numbers
-padded answer =
-    let values = answer.values in
-    record { code = answer.code; count = length values; fields = get_or values 0 0 ∷ get_or values 1 0 ∷ get_or values 2 0 ∷ get_or values 3 0 ∷ [] }
+padded answer = record { code = answer.code; count = length answer.values; fields = four answer.values }
 
 -- the same of a refusal that has `count` fields
 abbrev pub padded_refusal : ℕ → Reason → Numbers

@@ -1,33 +1,61 @@
 -- How the code's answers are read: the documents' code, then the fields in their order.
-use Rattle.std.specs.Prelude.{[], ◌∷◌}
+use Rattle.std.specs.Prelude.{ℕ, List, [], ◌∷◌, Result, Ok, Err}
+use Rattle.layout.specs.declared.Reason.{Reason}
 use Rattle.rules.specs.Answers.{Answer, success, refusal}
-use Rattle.answers.specs.declared.Finish.{Finish}
-use Rattle.answers.specs.declared.Finish.TheVariants.{Done, Refused as NotDone}
-use Rattle.answers.specs.declared.Granted.{Granted}
-use Rattle.answers.specs.declared.Granted.TheVariants.{Block, Refused as NotGranted}
-use Rattle.answers.specs.declared.Sized.{Sized}
-use Rattle.answers.specs.declared.Sized.TheVariants.{Words, Refused as NotSized}
-use Rattle.answers.specs.declared.Reported.{Reported}
-use Rattle.answers.specs.declared.Reported.TheVariants.{Counts, Refused as NotReported}
-use Rattle.answers.specs.declared.Written.{Written}
-use Rattle.answers.specs.declared.Written.TheVariants.{Bytes, Refused as NotWritten}
+use Rattle.answers.specs.declared.Grant.{Grant}
+use Rattle.answers.specs.declared.Sizes.{Sizes}
+use Rattle.answers.specs.declared.Counts.{Counts}
+
+-- what the calls answer, as in src/
+
+abbrev pub Finish : Type 0
+Finish = Result (Unit {0}) Reason
+
+abbrev pub Granted : Type 0
+Granted = Result Grant Reason
+
+abbrev pub Sized : Type 0
+Sized = Result Sizes Reason
+
+abbrev pub Reported : Type 0
+Reported = Result Counts Reason
+
+abbrev pub Written : Type 0
+Written = Result ℕ Reason
+
+-- the fields of each answer that is no refusal
+
+abbrev pub no_fields : Unit {0} → List ℕ
+no_fields done = []
+
+abbrev pub grant_fields : Grant → List ℕ
+grant_fields it = it.block ∷ it.granted ∷ []
+
+abbrev pub sizes_fields : Sizes → List ℕ
+sizes_fields it = it.asked ∷ it.granted ∷ []
+
+abbrev pub counts_fields : Counts → List ℕ
+counts_fields it = it.free_words ∷ it.largest ∷ it.live_blocks ∷ it.free_chunks ∷ []
+
+abbrev pub one_field : ℕ → List ℕ
+one_field n = n ∷ []
+
+-- an answer whose fields are `values`; a refusal has `count` of them
+abbrev pub read : {A : Type 0} → (A → List ℕ) → ℕ → Result A Reason → Answer
+read values count (Ok it) = success (values it)
+read values count (Err why) = refusal count why
 
 abbrev pub finish_numbers : Finish → Answer
-finish_numbers Done = success []
-finish_numbers (NotDone why) = refusal 0 why
+finish_numbers = read no_fields 0
 
 abbrev pub granted_numbers : Granted → Answer
-granted_numbers (Block block granted) = success (block ∷ granted ∷ [])
-granted_numbers (NotGranted why) = refusal 2 why
+granted_numbers = read grant_fields 2
 
 abbrev pub sized_numbers : Sized → Answer
-sized_numbers (Words asked granted) = success (asked ∷ granted ∷ [])
-sized_numbers (NotSized why) = refusal 2 why
+sized_numbers = read sizes_fields 2
 
 abbrev pub reported_numbers : Reported → Answer
-reported_numbers (Counts free_words largest live_blocks free_chunks) = success (free_words ∷ largest ∷ live_blocks ∷ free_chunks ∷ [])
-reported_numbers (NotReported why) = refusal 4 why
+reported_numbers = read counts_fields 4
 
 abbrev pub written_numbers : Written → Answer
-written_numbers (Bytes bytes) = success (bytes ∷ [])
-written_numbers (NotWritten why) = refusal 1 why
+written_numbers = read one_field 1

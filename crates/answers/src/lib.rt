@@ -1,25 +1,50 @@
 // What the calls answer, and the same in the documents' numbers.
 #![tactic(auto)]
 
-ghost use Rattle.std.specs.Prelude.{◌≡◌};
-ghost use Rattle.answers.specs.Readings.{finish_numbers, granted_numbers, sized_numbers, reported_numbers, written_numbers};
-ghost use Rattle.answers.specs.Padded.{padded, padded_refusal};
+ghost use Rattle.std.specs.Prelude.{◌≡◌, ℕ, List};
+ghost use Rattle.answers.specs.Readings.{read, no_fields, grant_fields, sizes_fields, counts_fields, one_field};
+ghost use Rattle.answers.specs.Padded.{four, padded, padded_refusal};
+ghost use Rattle.answers.specs.FieldLaws.{FieldLaws, no_field_laws, grant_laws, sizes_laws, counts_laws, one_field_laws};
 
 use layout::Reason;
 
-// What start, free and the reading of a picture answer.
+// A block, and the words granted with it.
 #[derive(Clone, Copy)]
-pub enum Finish {
-    Done,
-    Refused(Reason),
+pub struct Grant {
+    pub block: u32,
+    pub granted: u32,
 }
 
-// What alloc, alloc_best, resize, relocate and realloc answer.
+// The words of a block that were asked for, and those granted.
 #[derive(Clone, Copy)]
-pub enum Granted {
-    Block { block: u32, granted: u32 },
-    Refused(Reason),
+pub struct Sizes {
+    pub asked: u32,
+    pub granted: u32,
 }
+
+// What a report counts.
+#[derive(Clone, Copy)]
+pub struct Counts {
+    pub free_words: u32,
+    pub largest: u32,
+    pub live_blocks: u32,
+    pub free_chunks: u32,
+}
+
+// What start, free and the reading of a picture answer.
+pub type Finish = Result<(), Reason>;
+
+// What alloc, alloc_best, resize, relocate and realloc answer.
+pub type Granted = Result<Grant, Reason>;
+
+// What size answers.
+pub type Sized = Result<Sizes, Reason>;
+
+// What report answers.
+pub type Reported = Result<Counts, Reason>;
+
+// What the writing of a picture answers: how many bytes it has.
+pub type Written = Result<u32, Reason>;
 
 // What alloc_next answers: what alloc does, and the rover afterwards.
 #[derive(Clone, Copy)]
@@ -28,30 +53,108 @@ pub struct Roved {
     pub rover: u32,
 }
 
-// What size answers: the words that were asked for, and those granted.
-#[derive(Clone, Copy)]
-pub enum Sized {
-    Words { asked: u32, granted: u32 },
-    Refused(Reason),
+// What an answer that is no refusal tells, as the documents' fields.
+pub trait Fields {
+    // The fields in their order.
+    ghost values: { Self → List ℕ };
+
+    // How many there are, in a refusal too.
+    ghost count: { ℕ };
+
+    // What each kind of answer keeps to.
+    ghost laws: { FieldLaws values count };
+
+    fn count() -> usize
+        ensures { result ≡ count };
+
+    // The fields, behind which all is 0.
+    fn fields(self) -> [u32; 4]
+        ensures { result ≡ four (values self) };
 }
 
-// What report answers.
-#[derive(Clone, Copy)]
-pub enum Reported {
-    Counts {
-        free_words: u32,
-        largest: u32,
-        live_blocks: u32,
-        free_chunks: u32,
-    },
-    Refused(Reason),
+impl Fields for () {
+    ghost values = { no_fields };
+
+    ghost count = { 0 };
+
+    ghost laws = { no_field_laws };
+
+    fn count() -> usize {
+        0
+    }
+
+    fn fields(self) -> [u32; 4] {
+        [0; 4]
+    }
 }
 
-// What the writing of a picture answers: how many bytes it has.
-#[derive(Clone, Copy)]
-pub enum Written {
-    Bytes(u32),
-    Refused(Reason),
+impl Fields for Grant {
+    ghost values = { grant_fields };
+
+    ghost count = { 2 };
+
+    ghost laws = { grant_laws };
+
+    fn count() -> usize {
+        2
+    }
+
+    fn fields(self) -> [u32; 4] {
+        [self.block, self.granted, 0, 0]
+    }
+}
+
+impl Fields for Sizes {
+    ghost values = { sizes_fields };
+
+    ghost count = { 2 };
+
+    ghost laws = { sizes_laws };
+
+    fn count() -> usize {
+        2
+    }
+
+    fn fields(self) -> [u32; 4] {
+        [self.asked, self.granted, 0, 0]
+    }
+}
+
+impl Fields for Counts {
+    ghost values = { counts_fields };
+
+    ghost count = { 4 };
+
+    ghost laws = { counts_laws };
+
+    fn count() -> usize {
+        4
+    }
+
+    fn fields(self) -> [u32; 4] {
+        [
+            self.free_words,
+            self.largest,
+            self.live_blocks,
+            self.free_chunks,
+        ]
+    }
+}
+
+impl Fields for u32 {
+    ghost values = { one_field };
+
+    ghost count = { 1 };
+
+    ghost laws = { one_field_laws };
+
+    fn count() -> usize {
+        1
+    }
+
+    fn fields(self) -> [u32; 4] {
+        [self, 0, 0, 0]
+    }
 }
 
 // An answer in numbers: its code, how many fields it has, and the fields, behind which all is 0.
@@ -67,83 +170,22 @@ pub fn refusal_numbers(count: usize, why: Reason) -> Numbers
     ensures { result ≡ padded_refusal count why }
 {
     Numbers {
-        code: layout::number(why),
+        code: u32::from(why),
         count,
         fields: [0, 0, 0, 0],
     }
 }
 
-// What start, free and the reading of a picture answer, in numbers.
-pub fn finish_numbers(finish: Finish) -> Numbers
-    ensures { result ≡ padded (finish_numbers finish) }
+// What a call answers, in numbers.
+pub fn in_numbers<F: Fields>(answer: Result<F, Reason>) -> Numbers
+    ensures { result ≡ padded (read F.values F.count answer) }
 {
-    match finish {
-        Finish::Done => Numbers {
+    match answer {
+        Ok(told) => Numbers {
             code: 0,
-            count: 0,
-            fields: [0; 4],
+            count: F::count(),
+            fields: told.fields(),
         },
-        Finish::Refused(why) => refusal_numbers(0, why),
-    }
-}
-
-// What alloc, alloc_best, resize, relocate and realloc answer, in numbers.
-pub fn granted_numbers(granted: Granted) -> Numbers
-    ensures { result ≡ padded (granted_numbers granted) }
-{
-    match granted {
-        Granted::Block { block, granted } => Numbers {
-            code: 0,
-            count: 2,
-            fields: [block, granted, 0, 0],
-        },
-        Granted::Refused(why) => refusal_numbers(2, why),
-    }
-}
-
-// What size answers, in numbers.
-pub fn sized_numbers(sized: Sized) -> Numbers
-    ensures { result ≡ padded (sized_numbers sized) }
-{
-    match sized {
-        Sized::Words { asked, granted } => Numbers {
-            code: 0,
-            count: 2,
-            fields: [asked, granted, 0, 0],
-        },
-        Sized::Refused(why) => refusal_numbers(2, why),
-    }
-}
-
-// What report answers, in numbers.
-pub fn reported_numbers(reported: Reported) -> Numbers
-    ensures { result ≡ padded (reported_numbers reported) }
-{
-    match reported {
-        Reported::Counts {
-            free_words,
-            largest,
-            live_blocks,
-            free_chunks,
-        } => Numbers {
-            code: 0,
-            count: 4,
-            fields: [free_words, largest, live_blocks, free_chunks],
-        },
-        Reported::Refused(why) => refusal_numbers(4, why),
-    }
-}
-
-// What the writing of a picture answers, in numbers.
-pub fn written_numbers(written: Written) -> Numbers
-    ensures { result ≡ padded (written_numbers written) }
-{
-    match written {
-        Written::Bytes(bytes) => Numbers {
-            code: 0,
-            count: 1,
-            fields: [bytes, 0, 0, 0],
-        },
-        Written::Refused(why) => refusal_numbers(1, why),
+        Err(why) => refusal_numbers(F::count(), why),
     }
 }

@@ -7,10 +7,9 @@ ghost use Rattle.rules.specs.Calls.{start_on, alloc_on, alloc_best_on, Roves, fr
 ghost use Rattle.answers.specs.Readings.{finish_numbers, granted_numbers, sized_numbers, reported_numbers};
 ghost use Rattle.arena.specs.Views.{Views};
 
-pub use answers::{Finish, Granted, Reported, Roved, Sized};
-use layout::{Reason, wide};
+pub use answers::{Counts, Finish, Grant, Granted, Reported, Roved, Sized, Sizes};
+use layout::Reason;
 use passes::fits;
-use targets::{Asked, Located, Target};
 
 // Makes the whole arena one free chunk.
 pub fn start(a: &mut [u32]) -> Finish
@@ -20,37 +19,27 @@ pub fn start(a: &mut [u32]) -> Finish
     if layout::is_lawful(n) {
         stores::put(a, 0, n, layout::FIRST_CHUNK);
         stores::put(a, layout::FIRST_CHUNK, n - layout::CONTROL_WORDS, 0);
-        return Finish::Done;
+        return Ok(());
     }
-    Finish::Refused(Reason::Length)
+    Err(Reason::Length)
 }
 
 // Grants a block of at least `n` words by first fit: from the lowest free chunk that fits.
 pub fn alloc(a: &mut [u32], n: u32) -> Granted
     ensures { Gives (alloc_on a.old n) (granted_numbers result) a.new }
 {
-    let asked = targets::ask(a, n);
-    match asked {
-        Asked::Need(need) => {
-            let place = fits::first_fit(a, need);
-            targets::grant(a, place, need, n)
-        }
-        Asked::Refused(why) => Granted::Refused(why),
-    }
+    let ask = targets::ask(a, n)?;
+    let place = fits::first_fit(a, ask.need);
+    targets::grant(a, place, ask)
 }
 
 // Grants a block of at least `n` words by best fit: from the smallest free chunk that fits, the lowest of equals.
 pub fn alloc_best(a: &mut [u32], n: u32) -> Granted
     ensures { Gives (alloc_best_on a.old n) (granted_numbers result) a.new }
 {
-    let asked = targets::ask(a, n);
-    match asked {
-        Asked::Need(need) => {
-            let place = fits::best_fit(a, need);
-            targets::grant(a, place, need, n)
-        }
-        Asked::Refused(why) => Granted::Refused(why),
-    }
+    let ask = targets::ask(a, n)?;
+    let place = fits::best_fit(a, ask.need);
+    targets::grant(a, place, ask)
 }
 
 // Grants a block of at least `n` words by next fit: from the lowest free chunk that fits from word `rover` on; once
@@ -58,18 +47,17 @@ pub fn alloc_best(a: &mut [u32], n: u32) -> Granted
 pub fn alloc_next(a: &mut [u32], rover: u32, n: u32) -> Roved
     ensures { Roves a.old rover n (granted_numbers result.granted) a.new result.rover }
 {
-    let asked = targets::ask(a, n);
-    match asked {
-        Asked::Need(need) => {
-            let place = fits::next_fit(a, wide(rover), need);
+    match targets::ask(a, n) {
+        Ok(ask) => {
+            let place = fits::next_fit(a, rover as usize, ask.need);
             let moved = targets::start_of(place, rover);
             Roved {
-                granted: targets::grant(a, place, need, n),
+                granted: targets::grant(a, place, ask),
                 rover: moved,
             }
         }
-        Asked::Refused(why) => Roved {
-            granted: Granted::Refused(why),
+        Err(why) => Roved {
+            granted: Err(why),
             rover,
         },
     }
@@ -79,82 +67,55 @@ pub fn alloc_next(a: &mut [u32], rover: u32, n: u32) -> Roved
 pub fn free(a: &mut [u32], b: u32) -> Finish
     ensures { Gives (free_on a.old b) (finish_numbers result) a.new }
 {
-    let located = targets::locate(a, b);
-    match located {
-        Located::Chunk { link, chunk } => {
-            stores::release::release(a, link, chunk);
-            Finish::Done
-        }
-        Located::Refused(why) => Finish::Refused(why),
-    }
+    let place = targets::locate(a, b)?;
+    stores::release::release(a, place);
+    Ok(())
 }
 
 // Makes block `b` one of at least `n` words where it stands; it keeps its number, or the call is refused.
 pub fn resize(a: &mut [u32], b: u32, n: u32) -> Granted
     ensures { Gives (resize_on a.old b n) (granted_numbers result) a.new }
 {
-    let target = targets::target_of(a, b, n);
-    match target {
-        Target::Block { link, chunk, need } => {
-            let way = ways::staying::resize_at(a, link, chunk, need, n);
-            targets::answer(way, Reason::WouldMove)
-        }
-        Target::Refused(why) => Granted::Refused(why),
-    }
+    let target = targets::target_of(a, b, n)?;
+    ways::staying::resize_at(a, target.place, target.ask).ok_or(Reason::WouldMove)
 }
 
 // Moves block `b` to a new block of at least `n` words, and its words with it, as many as the shorter of the two has.
 pub fn relocate(a: &mut [u32], b: u32, n: u32) -> Granted
     ensures { Gives (relocate_on a.old b n) (granted_numbers result) a.new }
 {
-    let target = targets::target_of(a, b, n);
-    match target {
-        Target::Block { link, chunk, need } => {
-            let way = ways::moving::relocate_at(a, link, chunk, need, n);
-            targets::answer(way, Reason::NoRoom)
-        }
-        Target::Refused(why) => Granted::Refused(why),
-    }
+    let target = targets::target_of(a, b, n)?;
+    ways::moving::relocate_at(a, target.place, target.ask).ok_or(Reason::NoRoom)
 }
 
 // Makes block `b` one of at least `n` words: where it stands or, if it would have to move, elsewhere.
 pub fn realloc(a: &mut [u32], b: u32, n: u32) -> Granted
     ensures { Gives (realloc_on a.old b n) (granted_numbers result) a.new }
 {
-    let target = targets::target_of(a, b, n);
-    match target {
-        Target::Block { link, chunk, need } => {
-            let way = ways::regrant_at(a, link, chunk, need, n);
-            targets::answer(way, Reason::NoRoom)
-        }
-        Target::Refused(why) => Granted::Refused(why),
-    }
+    let target = targets::target_of(a, b, n)?;
+    ways::regrant_at(a, target.place, target.ask).ok_or(Reason::NoRoom)
 }
 
 // The words that were asked for when block `b` was granted last, and its granted words.
 pub fn size(a: &[u32], b: u32) -> Sized
     ensures { Gives (size_on a.now b) (sized_numbers result) a.now }
 {
-    let located = targets::locate(a, b);
-    match located {
-        Located::Chunk { link: _, chunk } => Sized::Words {
-            asked: layout::asked_in(a[chunk + 1]),
-            granted: layout::block_words(wide(a[chunk])) as u32,
-        },
-        Located::Refused(why) => Sized::Refused(why),
-    }
+    let chunk = targets::locate(a, b)?.chunk;
+    Ok(Sizes {
+        asked: layout::asked_in(a[chunk + 1]),
+        granted: layout::block_words(a[chunk] as usize) as u32,
+    })
 }
 
 // The part of the arena that is block `b`, to read; no words where there is no such block.
 pub fn view(a: &[u32], b: u32) -> &[u32]
     ensures { Views a.now a.entry.ref_ptr b result.now result.ref_ptr }
 {
-    let sized = size(a, b);
-    let Sized::Words { asked: _, granted } = sized else {
+    let Ok(sizes) = size(a, b) else {
         return &a[..0];
     };
-    let from = wide(b);
-    let to = from + wide(granted);
+    let from = b as usize;
+    let to = from + sizes.granted as usize;
     &a[from..to]
 }
 
@@ -162,12 +123,11 @@ pub fn view(a: &[u32], b: u32) -> &[u32]
 pub fn view_mut(a: &mut [u32], b: u32) -> &mut [u32]
     ensures { Views a.old a.entry.ref_ptr b result.now result.ref_ptr }
 {
-    let sized = size(a, b);
-    let Sized::Words { asked: _, granted } = sized else {
+    let Ok(sizes) = size(a, b) else {
         return &mut a[..0];
     };
-    let from = wide(b);
-    let to = from + wide(granted);
+    let from = b as usize;
+    let to = from + sizes.granted as usize;
     &mut a[from..to]
 }
 
@@ -175,16 +135,13 @@ pub fn view_mut(a: &mut [u32], b: u32) -> &mut [u32]
 pub fn report(a: &[u32]) -> Reported
     ensures { Gives (report_on a.now) (reported_numbers result) a.now }
 {
-    let chunks = walk::count_chunks(a);
-    if chunks == 0 {
-        return Reported::Refused(walk::fault(a.len()));
-    }
+    let chunks = walk::count_chunks(a)?;
     let listed = passes::tally::count_free(a);
     let live = chunks - listed.chunks;
-    Reported::Counts {
+    Ok(Counts {
         free_words: listed.words as u32,
         largest: listed.largest as u32,
         live_blocks: live as u32,
         free_chunks: listed.chunks as u32,
-    }
+    })
 }

@@ -10,8 +10,8 @@ use borrow.Author.Tests.{eq-eqb, ne_eqb, eqb-true, eqb-false}
 use Rattle.layout.specs.Numbers.{lawful}
 use Rattle.layout.specs.Walk.{sound}
 use Rattle.layout.specs.Reasons.{arena_gate}
-use Rattle.layout.specs.declared.Gate.{Gate}
-use Rattle.layout.specs.declared.Gate.TheVariants.{Shut}
+use Rattle.layout.specs.Reasons.{Gate}
+use Rattle.std.specs.Prelude.{Err}
 use Rattle.layout.specs.declared.Reason.TheVariants.{Length}
 use Rattle.rules.proofs.Gates.{Checked, unlawful, damaged, whole, checked, unlawful_gate}
 use Rattle.spelling.specs.Words.{words_of}
@@ -19,7 +19,7 @@ use Rattle.spelling.proofs.Words.{words_spelled}
 use Rattle.desk.specs.Checks.{gate_number, bytes_gate}
 
 module _ (bytes : List ℕ) where
-  pub bytes_over : length bytes % 4 ≢ 0 → bytes_gate bytes ≡ Shut Length
+  pub bytes_over : length bytes % 4 ≢ 0 → bytes_gate bytes ≡ Err Length
   unfolding bytes_gate
   bytes_over n = rw (ne_eqb _ _ n)
 
@@ -27,7 +27,7 @@ module _ (bytes : List ℕ) where
   unfolding bytes_gate
   whole_words e = rw (eq-eqb _ _ e)
 
-  pub unlawful_words : length bytes % 4 ≡ 0 → lawful (length bytes / 4) ≡ false → bytes_gate bytes ≡ Shut Length
+  pub unlawful_words : length bytes % 4 ≡ 0 → lawful (length bytes / 4) ≡ false → bytes_gate bytes ≡ Err Length
   unlawful_words e l = whole_words e ∙ unlawful_gate (words_of bytes) (ap lawful (words_spelled bytes) ∙ l)
 
   -- ---- 0, 1 or 2, and what each says
@@ -43,7 +43,7 @@ module _ (bytes : List ℕ) where
   check_told = go (eqb (length bytes % 4) 0) refl (checked (words_of bytes))
     where
       go : (fours : Bool) → eqb (length bytes % 4) 0 ≡ fours → {gate : Gate} → Checked (words_of bytes) gate
-          → Told (gate_number (cond fours gate (Shut Length)))
+          → Told (gate_number (cond fours gate (Err Length)))
       go false e c = is_cut (eqb-false _ _ e)
       go true e (unlawful l) = is_unlawful (eqb-true _ _ e) (ap lawful (sym (words_spelled bytes)) ∙ l)
       go true e (damaged l d) = is_damaged (eqb-true _ _ e) (ap lawful (sym (words_spelled bytes)) ∙ l) d

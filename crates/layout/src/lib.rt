@@ -1,7 +1,7 @@
 // The layout of an arena: which words are lawful, what stands in them, and what a request needs.
 #![tactic(auto)]
 
-ghost use Rattle.std.specs.Prelude.{◌≡◌, true, ◌+◌, ◌-◌, ◌≤◌, min};
+ghost use Rattle.std.specs.Prelude.{◌≡◌, true, ◌+◌, ◌-◌, ◌≤◌};
 ghost use Rattle.layout.specs.Numbers.{lawful, greatest_length, header_words, live_mark};
 ghost use Rattle.layout.specs.Numbers.{need as need_of};
 ghost use Rattle.layout.specs.Walk.{is_live, asked_in};
@@ -30,59 +30,26 @@ const LIVE_MARK: u32 = 2147483648;
 // What fits a word is below this number.
 pub const WORD_VALUES: u64 = 4294967296;
 
-// Why a call says no.
-#[derive(Clone, Copy)]
+// Why a call says no, with the reason's number.
+#[derive(Clone, Copy, Debug, PartialEq, Eq)]
 pub enum Reason {
-    Length,
-    Damaged,
-    NotABlock,
-    Zero,
-    TooLarge,
-    NoRoom,
-    Frame,
-    WouldMove,
-    TextRoom,
+    Length = 1,
+    Damaged = 2,
+    NotABlock = 3,
+    Zero = 4,
+    TooLarge = 5,
+    NoRoom = 6,
+    Frame = 7,
+    WouldMove = 8,
+    TextRoom = 11,
 }
 
-// Whether a call may go on.
-#[derive(Clone, Copy)]
-pub enum Gate {
-    Open,
-    Shut(Reason),
-}
+impl From<Reason> for u32 {
+    ghost from_gives = { λ why number. number ≡ number_of why };
 
-// A reason's number.
-pub fn number(why: Reason) -> u32
-    ensures { result ≡ number_of why }
-{
-    match why {
-        Reason::Length => 1,
-        Reason::Damaged => 2,
-        Reason::NotABlock => 3,
-        Reason::Zero => 4,
-        Reason::TooLarge => 5,
-        Reason::NoRoom => 6,
-        Reason::Frame => 7,
-        Reason::WouldMove => 8,
-        Reason::TextRoom => 11,
+    fn from(why: Reason) -> u32 {
+        why as u32
     }
-}
-
-// A word as an index.
-pub fn wide(x: u32) -> usize
-    ensures { result ≡ x }
-{
-    x as usize
-}
-
-// The smaller of two numbers.
-pub fn smaller(x: usize, y: usize) -> usize
-    ensures { result ≡ min x y }
-{
-    if x < y {
-        return x;
-    }
-    y
 }
 
 // Whether an arena may have `n` words.
@@ -90,6 +57,13 @@ pub fn is_lawful(n: usize) -> bool
     ensures { result ≡ lawful n }
 {
     n % 2 == 0 && LEAST_LENGTH <= n && n <= GREATEST_LENGTH
+}
+
+// What a request comes to: how many words a chunk needs for it, and how many were asked for.
+#[derive(Clone, Copy)]
+pub struct Ask {
+    pub need: usize,
+    pub asked: u32,
 }
 
 // The words that a request for `n` needs.
@@ -135,16 +109,16 @@ pub fn asked_in(second: u32) -> u32
 
 // The reasons for which a request of `n` words is refused in an arena of `size` words: Zero, then TooLarge.
 #[tactic(auto, unfolding(crate::specs::Reasons::request_gate))]
-pub fn check_request(size: usize, n: usize) -> Gate
+pub fn check_request(size: usize, n: usize) -> Result<(), Reason>
     requires { lawful size ≡ true }
     ensures { result ≡ request_gate size n }
 {
     if n == 0 {
-        return Gate::Shut(Reason::Zero);
+        return Err(Reason::Zero);
     }
     if n <= size - (CONTROL_WORDS + HEADER_WORDS) {
-        Gate::Open
+        Ok(())
     } else {
-        Gate::Shut(Reason::TooLarge)
+        Err(Reason::TooLarge)
     }
 }

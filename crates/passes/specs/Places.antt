@@ -1,6 +1,6 @@
 -- Where a chunk stands, as functions say it to each other: by the word where it starts, and the word that names the
 -- next free chunk.
-use Rattle.std.specs.Prelude.{ℕ, ◌+◌, ◌≤◌, ◌≡◌, true, List}
+use Rattle.std.specs.Prelude.{ℕ, ◌+◌, ◌≤◌, ◌≡◌, true, List, Option, None, Some}
 use Rattle.layout.specs.Numbers.{first_chunk, list_word, header_words}
 use Rattle.layout.specs.Chunks.{Chunk, free, live, total}
 use Rattle.layout.specs.Walk.{sound, chunks_of}
@@ -9,12 +9,15 @@ use Rattle.rules.specs.Spots.{Spot, nowhere, at}
 use Rattle.rules.specs.Stands.{Stands}
 use Rattle.rules.specs.Rooms.{Needed}
 use Rattle.passes.specs.declared.places.Place.{Place}
-use Rattle.passes.specs.declared.places.Place.TheVariants.{At, Nowhere}
+
+-- the place of a chunk that starts at word `chunk`, and whose link word is `link`
+abbrev pub place_at : ℕ → ℕ → Place
+place_at link chunk = record { link = link; chunk = chunk }
 
 -- a spot as a search answers it: the word that names the first free chunk after those before it, and its own start
-unfoldable pub place_of : Spot → Place
-place_of nowhere = Nowhere
-place_of (at pre k post) = At (link_at list_word first_chunk pre) (first_chunk + total pre)
+unfoldable pub place_of : Spot → Option Place
+place_of nowhere = None
+place_of (at pre k post) = Some (place_at (link_at list_word first_chunk pre) (first_chunk + total pre))
 
 -- chunk `k` of the sound arena `a` stands between `pre` and `post` and starts at word `chunk`; word `link` names the
 -- first free chunk after `pre`

@@ -4,27 +4,25 @@ ghost use Rattle.layout.specs.Walk.{sound, chunks_of};
 ghost use Rattle.rules.specs.Spots.{held};
 ghost use Rattle.passes.specs.Places.{place_of};
 
-use layout::wide;
-
 // A chunk that a search found: its link word (the list's first word, or the second word of the last free chunk below
 // it), and its start.
 #[derive(Clone, Copy)]
-pub enum Place {
-    At(usize, usize),
-    Nowhere,
+pub struct Place {
+    pub link: usize,
+    pub chunk: usize,
 }
 
 // The live chunk that block number `b` names: passes the chunks below the word where it would start, from the first on,
 // as the check walk does, and looks whether it stands there.
-pub fn find(a: &[u32], b: usize) -> Place
+pub fn find(a: &[u32], b: usize) -> Option<Place>
     requires { sound a.now ≡ true }
     ensures { result ≡ place_of (held b (chunks_of a.now)) }
 {
     if a.len() <= b {
-        return Place::Nowhere;
+        return None;
     }
     if b < layout::HEADER_WORDS {
-        return Place::Nowhere;
+        return None;
     }
     let start = b - layout::HEADER_WORDS;
     let mut link = layout::LIST_WORD;
@@ -33,13 +31,13 @@ pub fn find(a: &[u32], b: usize) -> Place
         if !layout::is_live(a[chunk + 1]) {
             link = chunk + 1;
         }
-        chunk += wide(a[chunk]);
+        chunk += a[chunk] as usize;
     }
     if chunk != start {
-        return Place::Nowhere;
+        return None;
     }
     if !layout::is_live(a[chunk + 1]) {
-        return Place::Nowhere;
+        return None;
     }
-    Place::At(link, chunk)
+    Some(Place { link, chunk })
 }

@@ -1,9 +1,7 @@
 // Counting for the report: the free chunks along their list.
-ghost use Rattle.std.specs.Prelude.{◌≡◌, true, max};
+ghost use Rattle.std.specs.Prelude.{◌≡◌, true};
 ghost use Rattle.layout.specs.Walk.{sound, chunks_of};
 ghost use Rattle.passes.specs.Tallies.{free_tally};
-
-use layout::wide;
 
 // The free chunks counted: their words, the largest request that one of them holds, how many they are.
 #[derive(Clone, Copy)]
@@ -11,16 +9,6 @@ pub struct FreeTally {
     pub words: usize,
     pub largest: usize,
     pub chunks: usize,
-}
-
-// The larger of two numbers.
-fn larger(x: usize, y: usize) -> usize
-    ensures { result ≡ max x y }
-{
-    if x < y {
-        return y;
-    }
-    x
 }
 
 // Counts the free chunks of a sound arena by following their list: word 1 names the first, each names the next, and 0
@@ -32,13 +20,13 @@ pub fn count_free(a: &[u32]) -> FreeTally
     let mut words = 0;
     let mut largest = 0;
     let mut chunks = 0;
-    let mut chunk = wide(a[layout::LIST_WORD]);
+    let mut chunk = a[layout::LIST_WORD] as usize;
     while chunk != 0 {
-        let size = wide(a[chunk]);
+        let size = a[chunk] as usize;
         words += size;
-        largest = larger(largest, layout::block_words(size));
+        largest = largest.max(layout::block_words(size));
         chunks += 1;
-        chunk = wide(a[chunk + 1]);
+        chunk = a[chunk + 1] as usize;
     }
     FreeTally {
         words,

@@ -8,7 +8,7 @@ use lib.ListN.{length, take, drop}
 use borrow.Author.Tests.{eq-eqb, ne_eqb}
 use Rattle.layout.specs.Numbers.{lawful}
 use Rattle.layout.specs.Reasons.{arena_gate}
-use Rattle.layout.specs.declared.Gate.TheVariants.{Open, Shut}
+use Rattle.std.specs.Prelude.{Ok, Err}
 use Rattle.layout.specs.declared.Reason.{Reason}
 use Rattle.layout.specs.declared.Reason.TheVariants.{Length, Frame}
 use Rattle.digits.specs.Digits.{upper}
@@ -96,12 +96,12 @@ module _ (n : ℕ) (buffer a : List ℕ) where
 
   module _ (same_length : n ≡ length a) where
     module _ (fits : n ≤ length buffer) where
-      pub accept_shut : (why : Reason) → Shut why ≡ arena_gate (take n buffer) → Accepts n buffer a (refusal 0 why) a
+      pub accept_shut : (why : Reason) → Err why ≡ arena_gate (take n buffer) → Accepts n buffer a (refusal 0 why) a
       accept_shut why shut found f =
           let (ws, is, long, there) = found_words found n buffer f in
           rw (is, eq-eqb (length ws) (length a) (sym long ∙ same_length), ← there fits, ← shut) (record { answers = refl; leaves = refl })
 
-      pub accept_open : (after : List ℕ) → Open ≡ arena_gate (take n buffer) → after ≡ take n buffer → Accepts n buffer a (success []) after
+      pub accept_open : (after : List ℕ) → Ok tt ≡ arena_gate (take n buffer) → after ≡ take n buffer → Accepts n buffer a (success []) after
       accept_open after opens copied found f =
           let (ws, is, long, there) = found_words found n buffer f in
           rw (is, eq-eqb (length ws) (length a) (sym long ∙ same_length), ← there fits, ← opens) (record { answers = refl; leaves = copied })

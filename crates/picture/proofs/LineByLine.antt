@@ -7,7 +7,7 @@ use lib.ListN.{length, take, drop, length-append, length-drop}
 use lib.Seq.{drop-drop}
 use borrow.Author.Tests.{lt-leb, le-leb}
 use Rattle.layout.specs.Reasons.{number, arena_gate}
-use Rattle.layout.specs.declared.Gate.TheVariants.{Open, Shut}
+use Rattle.std.specs.Prelude.{Ok, Err}
 use Rattle.layout.specs.declared.Reason.{Reason}
 use Rattle.layout.specs.declared.Reason.TheVariants.{TextRoom}
 use Rattle.layout.proofs.Reasons.{number_positive}
@@ -82,7 +82,7 @@ frames_room words start e = omega (arith, picture_length_lem words, frames_lengt
 -- ---- what comes of that
 
 module _ (a text : List ℕ) where
-  pub writes_shut : (why : Reason) → Shut why ≡ arena_gate a → Writes a text (refusal 1 why) text
+  pub writes_shut : (why : Reason) → Err why ≡ arena_gate a → Writes a text (refusal 1 why) text
   unfolding write_on
   writes_shut why shut =
       let code : (write_on a text).answer.code ≡ number why = rw (← shut) in
@@ -91,7 +91,7 @@ module _ (a text : List ℕ) where
         fills = sym (text_unchanged a text (λ z. omega (arith, number_positive why)));
       }
 
-  module _ (opens : Open ≡ arena_gate a) where
+  module _ (opens : Ok tt ≡ arena_gate a) where
     pub writes_short : length text < picture_length (length a) → Writes a text (refusal 1 TextRoom) text
     unfolding write_on
     writes_short short =

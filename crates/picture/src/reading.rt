@@ -17,7 +17,7 @@ fn read_frame(text: &[u8], at: usize, index: usize, words: &mut [u32]) -> bool
     ensures { ReadsFrame text.now at index (length words.old) result words.new }
 {
     frames::load_words(text, at + frames::LINE_HEAD, words);
-    frames::has_line(text, at, frames::FRAME, index as u32, words)
+    frames::has_line(text, at, frames::Kind::Frame, index as u32, words)
 }
 
 // Where `count` words from word `i` on are put in a buffer of `room` words: in their place or, where that lies beyond
@@ -64,7 +64,7 @@ pub(crate) fn decode(text: &[u8], buffer: &mut [u32]) -> Found
     if text.len() != frames::picture_length(n) {
         return Found::Bad;
     }
-    if !frames::has_line(text, 0, frames::SIZE_LINE, n as u32, &buffer[..0]) {
+    if !frames::has_line(text, 0, frames::Kind::Size, n as u32, &buffer[..0]) {
         return Found::Bad;
     }
     if read_frames(text, n, buffer) {

@@ -10,11 +10,11 @@ pub(crate) fn put_picture(words: &[u32], text: &mut [u8]) -> usize
     ensures { Puts 0 (picture_of words.now) text.old result text.new }
 {
     let n = words.len();
-    let mut at = frames::put_line(text, 0, frames::SIZE_LINE, n as u32, &words[..0]);
+    let mut at = frames::put_line(text, 0, frames::Kind::Size, n as u32, &words[..0]);
     let mut i = 0;
     while i < n {
         let end = i + layout::smaller(frames::FRAME_WORDS, n - i);
-        at = frames::put_line(text, at, frames::FRAME, i as u32, &words[i..end]);
+        at = frames::put_line(text, at, frames::Kind::Frame, i as u32, &words[i..end]);
         i = end;
     }
     at

@@ -8,8 +8,8 @@ use Rattle.layout.specs.Numbers.{first_chunk, header_words, need}
 use Rattle.layout.specs.Chunks.{Chunk, free, total}
 use Rattle.layout.specs.Walk.{chunks_of}
 use Rattle.layout.specs.Reasons.{arena_gate, request_gate}
-use Rattle.layout.specs.declared.Gate.{Gate}
-use Rattle.layout.specs.declared.Gate.TheVariants.{Open, Shut}
+use Rattle.layout.specs.Reasons.{Gate}
+use Rattle.std.specs.Prelude.{Ok, Err}
 use Rattle.layout.specs.declared.Reason.TheVariants.{NoRoom}
 use Rattle.layout.proofs.Reasons.{number_positive}
 use Rattle.rules.specs.Answers.{settle, pass}
@@ -42,10 +42,10 @@ alloc_by_found policy fitting Is is a n = go (arena_gate a) (request_gate (lengt
     go : (arena request : Gate) {spot : Spot} → Picks (chunks_of a) (need n) spot → policy (need n) (chunks_of a) ≡ spot
         → let outcome = settle 2 a (pass arena (pass request (granted NoRoom (allotted (grant_from (need n) n spot) a)))) in
         outcome.answer.code ≡ 0 → GrantedFrom (Is (chunks_of a) (need n)) a n outcome.answer.values (start_of spot)
-    go (Shut why) request p e done = absurd (omega (arith, number_positive why))
-    go Open (Shut why) p e done = absurd (omega (arith, number_positive why))
-    go Open Open (no_gap none) e done = absurd (omega (arith, number_positive NoRoom))
-    go Open Open (a_gap pre s post gap) e done =
+    go (Err why) request p e done = absurd (omega (arith, number_positive why))
+    go (Ok _) (Err why) p e done = absurd (omega (arith, number_positive why))
+    go (Ok _) (Ok _) (no_gap none) e done = absurd (omega (arith, number_positive NoRoom))
+    go (Ok _) (Ok _) (a_gap pre s post gap) e done =
         record { s = s; gap = (pre, post, gap, refl); is = is (need n) (chunks_of a) pre s post e; answers = refl }
 
 module _ (a : List ℕ) (n : ℕ) where

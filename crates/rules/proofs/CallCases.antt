@@ -11,7 +11,7 @@ use Rattle.layout.specs.Numbers.{first_chunk, control_words, header_words, lawfu
 use Rattle.layout.specs.Chunks.{Chunk, free, live, total, written}
 use Rattle.layout.specs.Walk.{sound, chunks_of}
 use Rattle.layout.specs.Reasons.{arena_gate}
-use Rattle.layout.specs.declared.Gate.{Gate}
+use Rattle.layout.specs.Reasons.{Gate}
 use Rattle.layout.specs.declared.Reason.{Reason}
 use Rattle.layout.specs.declared.Reason.TheVariants.{Length, Damaged, NotABlock, Zero, TooLarge, NoRoom}
 use Rattle.layout.proofs.Reasons.{number_positive}

@@ -14,7 +14,7 @@ use Rattle.layout.specs.Bounds.{AllBelow}
 use Rattle.layout.specs.Chunks.{Chunk, total}
 use Rattle.layout.specs.Walk.{sound}
 use Rattle.layout.specs.Reasons.{number, arena_gate}
-use Rattle.layout.specs.declared.Gate.{Gate}
+use Rattle.layout.specs.Reasons.{Gate}
 use Rattle.layout.specs.declared.Reason.{Reason}
 use Rattle.layout.specs.declared.Reason.TheVariants.{Length, Damaged, Frame, TextRoom}
 use Rattle.layout.proofs.Holds.{Sizes}

@@ -11,7 +11,7 @@ use Rattle.layout.specs.Numbers.{first_chunk, header_words, need}
 use Rattle.layout.specs.Chunks.{Chunk, live, total, written}
 use Rattle.layout.specs.Walk.{sound, chunks_of}
 use Rattle.layout.specs.Reasons.{number}
-use Rattle.layout.specs.declared.Gate.{Gate}
+use Rattle.layout.specs.Reasons.{Gate}
 use Rattle.layout.specs.declared.Reason.{Reason}
 use Rattle.layout.specs.declared.Reason.TheVariants.{Length, Damaged, NotABlock, Zero, TooLarge, NoRoom, WouldMove}
 use Rattle.layout.proofs.Holds.{Sizes}

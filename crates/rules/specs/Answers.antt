@@ -2,8 +2,8 @@
 use Rattle.std.specs.Prelude.{ℕ, ◌≡◌, List, get_or, replicate}
 use Rattle.layout.specs.declared.Reason.{Reason}
 use Rattle.layout.specs.declared.Reason.TheVariants.{Frame}
-use Rattle.layout.specs.declared.Gate.{Gate}
-use Rattle.layout.specs.declared.Gate.TheVariants.{Open, Shut}
+use Rattle.layout.specs.Reasons.{Gate}
+use Rattle.std.specs.Prelude.{Ok, Err}
 use Rattle.layout.specs.Reasons.{number}
 
 -- the code, then the fields in their order
@@ -61,8 +61,8 @@ no_call a = settle 0 a (refused Frame)
 
 -- a gate that is shut refuses before anything else is looked at
 abbrev pub pass : Gate → Result → Result
-pass Open result = result
-pass (Shut why) result = refused why
+pass (Ok _) result = result
+pass (Err why) result = refused why
 
 -- the promise of a call: it answers, and leaves the words, as the outcome says
 pub record Gives (outcome : Outcome) (answer : Answer) (words : List ℕ) : Type 0 where

@@ -11,14 +11,12 @@ ghost use Rattle.layout.specs.Chunks.{header};
 ghost use Rattle.rules.specs.Rules.{copied};
 ghost use Rattle.stores.specs.Beside.{Beside};
 
-use layout::wide;
-
 // Word `i` becomes `v`. One that is `v` already is not stored to: no call writes a word that its rule leaves as it is.
 pub fn change(a: &mut [u32], i: usize, v: usize)
     requires { (i < length a.old) × (v < word_values) }
     ensures { a.new ≡ set a.old i v }
 {
-    if wide(a[i]) == v {
+    if a[i] as usize == v {
         return;
     }
     a[i] = v as u32;
@@ -38,7 +36,7 @@ pub fn put_live(a: &mut [u32], i: usize, words: usize, asked: u32)
     requires { (i + 1 < length a.old) × (words < word_values) × (asked ≤ greatest_length) }
     ensures { a.new ≡ header i words (live_mark + asked) a.old }
 {
-    put(a, i, words, wide(layout::live_word(asked)));
+    put(a, i, words, layout::live_word(asked) as usize);
 }
 
 // Copies `count` words from word `from` on to the words from `to` on. The two runs of words do not overlap.
@@ -46,9 +44,5 @@ pub fn copy(a: &mut [u32], from: usize, to: usize, count: usize)
     requires { Beside (length a.old) from to count }
     ensures { a.new ≡ copied from to count a.old }
 {
-    let mut k = 0;
-    while k < count {
-        a[to + k] = a[from + k];
-        k += 1;
-    }
+    a.copy_within(from..from + count, to);
 }

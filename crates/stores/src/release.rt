@@ -3,7 +3,7 @@ ghost use Rattle.std.specs.Prelude.{◌≡◌, ◌<◌, length};
 ghost use Rattle.passes.specs.Places.{LiveAt};
 ghost use Rattle.stores.specs.RoomAt.{RoomAt, FreedAt, ends_at};
 
-use layout::wide;
+use passes::places::Place;
 
 // A chunk together with a free chunk right after it, if there is one: their words, and the next free chunk behind them.
 #[derive(Clone, Copy)]
@@ -12,48 +12,48 @@ pub struct Room {
     pub next: usize,
 }
 
-// The room of the live chunk at `chunk`.
-pub fn room_at(a: &[u32], link: usize, chunk: usize) -> Room
-    requires { LiveAt a.now link chunk }
-    ensures { RoomAt a.now link chunk result }
+// The room of the live chunk at a place.
+pub fn room_at(a: &[u32], place: Place) -> Room
+    requires { LiveAt a.now place.link place.chunk }
+    ensures { RoomAt a.now place.link place.chunk result }
 {
-    let size = wide(a[chunk]);
-    let next = wide(a[link]);
-    if next == chunk + size {
-        let words = size + wide(a[next]);
+    let size = a[place.chunk] as usize;
+    let next = a[place.link] as usize;
+    if next == place.chunk + size {
+        let words = size + a[next] as usize;
         return Room {
             words,
-            next: wide(a[next + 1]),
+            next: a[next + 1] as usize,
         };
     }
     Room { words: size, next }
 }
 
-// Whether the free chunk whose second word is `link` ends at `chunk`.
-fn ends_at(a: &[u32], link: usize, chunk: usize) -> bool
-    requires { (link < chunk) × (chunk < length a.now) }
-    ensures { result ≡ ends_at a.now link chunk }
+// Whether the free chunk whose second word is the place's link word ends where the place's chunk starts.
+fn ends_at(a: &[u32], place: Place) -> bool
+    requires { (place.link < place.chunk) × (place.chunk < length a.now) }
+    ensures { result ≡ ends_at a.now place.link place.chunk }
 {
-    if link <= layout::LIST_WORD {
+    if place.link <= layout::LIST_WORD {
         return false;
     }
-    let left = link - 1;
-    wide(a[left]) == chunk - left
+    let left = place.link - 1;
+    a[left] as usize == place.chunk - left
 }
 
-// Frees the live chunk at `chunk`: merges it with a free chunk right after it, then with one right before it.
-pub fn release(a: &mut [u32], link: usize, chunk: usize)
-    requires { LiveAt a.old link chunk }
-    ensures { FreedAt a.old link chunk a.new }
+// Frees the live chunk at a place: merges it with a free chunk right after it, then with one right before it.
+pub fn release(a: &mut [u32], place: Place)
+    requires { LiveAt a.old place.link place.chunk }
+    ensures { FreedAt a.old place.link place.chunk a.new }
 {
-    let room = room_at(a, link, chunk);
+    let room = room_at(a, place);
     let words = room.words;
     let next = room.next;
-    if ends_at(a, link, chunk) {
-        let left = link - 1;
-        super::put(a, left, chunk - left + words, next);
+    if ends_at(a, place) {
+        let left = place.link - 1;
+        super::put(a, left, place.chunk - left + words, next);
         return;
     }
-    super::change(a, link, chunk);
-    super::put(a, chunk, words, next);
+    super::change(a, place.link, place.chunk);
+    super::put(a, place.chunk, words, next);
 }

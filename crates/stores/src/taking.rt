@@ -2,7 +2,8 @@
 ghost use Rattle.passes.specs.Places.{FitsAt};
 ghost use Rattle.stores.specs.Taken.{TakesAt};
 
-use layout::wide;
+use layout::Ask;
+use passes::places::Place;
 
 // A live chunk: where it starts, and its words.
 #[derive(Clone, Copy)]
@@ -11,24 +12,24 @@ pub struct Piece {
     pub words: usize,
 }
 
-// Makes `need` words of the free chunk at `chunk` live, for a request of `asked` words: its last ones, or all of them
-// where too few would be over.
-pub fn take(a: &mut [u32], link: usize, chunk: usize, need: usize, asked: u32) -> Piece
-    requires { FitsAt a.old link chunk need asked }
-    ensures { TakesAt a.old link chunk need asked result a.new }
+// Makes the needed words of the free chunk at a place live: its last ones, or all of them where too few would be over.
+pub fn take(a: &mut [u32], place: Place, ask: Ask) -> Piece
+    requires { FitsAt a.old place.link place.chunk ask.need ask.asked }
+    ensures { TakesAt a.old place.link place.chunk ask.need ask.asked result a.new }
 {
-    let size = wide(a[chunk]);
-    let next = wide(a[chunk + 1]);
-    let rest = size - need;
+    let chunk = place.chunk;
+    let size = a[chunk] as usize;
+    let next = a[chunk + 1] as usize;
+    let rest = size - ask.need;
     if rest < layout::LEAST_SPLIT {
-        super::change(a, link, next);
-        super::put_live(a, chunk, size, asked);
+        super::change(a, place.link, next);
+        super::put_live(a, chunk, size, ask.asked);
         return Piece { chunk, words: size };
     }
     super::put(a, chunk, rest, next);
-    super::put_live(a, chunk + rest, need, asked);
+    super::put_live(a, chunk + rest, ask.need, ask.asked);
     Piece {
         chunk: chunk + rest,
-        words: need,
+        words: ask.need,
     }
 }

@@ -12,8 +12,8 @@ use Rattle.layout.specs.Numbers.{need}
 use Rattle.layout.specs.Chunks.{free}
 use Rattle.layout.specs.Walk.{sound, chunks_of}
 use Rattle.layout.specs.Reasons.{arena_gate, request_gate}
-use Rattle.layout.specs.declared.Gate.{Gate}
-use Rattle.layout.specs.declared.Gate.TheVariants.{Open, Shut}
+use Rattle.layout.specs.Reasons.{Gate}
+use Rattle.std.specs.Prelude.{Ok, Err}
 use Rattle.layout.specs.declared.Reason.{Reason}
 use Rattle.layout.specs.declared.Reason.TheVariants.{NoRoom}
 use Rattle.layout.proofs.Reasons.{number_positive}
@@ -51,9 +51,9 @@ module _ (a : List ℕ) (n : ℕ) where
       go : (arena : Gate) → arena_gate a ≡ arena → (request : Gate) → request_gate (length a) n ≡ request
           → NotAsked why ≡ asked_past arena (asked_by request (need n))
           → Gives (alloc_by policy a n) (refusal 2 why) a
-      go (Shut r) q request h p = let is : why ≡ r = cc in rw (q, is) (record { answers = refl; leaves = refl })
-      go Open q (Shut r) h p = let is : why ≡ r = cc in rw (q, h, is) (record { answers = refl; leaves = refl })
-      go Open q Open h p = absurd (let z : ◌≡◌ {A = ℕ} 0 1 = cc in omega arith)
+      go (Err r) q request h p = let is : why ≡ r = cc in rw (q, is) (record { answers = refl; leaves = refl })
+      go (Ok _) q (Err r) h p = let is : why ≡ r = cc in rw (q, h, is) (record { answers = refl; leaves = refl })
+      go (Ok _) q (Ok _) h p = absurd (let z : ◌≡◌ {A = ℕ} 0 1 = cc in omega arith)
 
   -- a need: whoever grants what a policy picks for it does what the call under that policy comes to
   pub record Wanting (words : ℕ) : Type 0 where
@@ -70,9 +70,9 @@ module _ (a : List ℕ) (n : ℕ) where
       go : (arena : Gate) → arena_gate a ≡ arena → (request : Gate) → request_gate (length a) n ≡ request
           → Need words ≡ asked_past arena (asked_by request (need n))
           → Wanting words
-      go (Shut r) q request h p = absurd (let z : ◌≡◌ {A = ℕ} 0 1 = cc in omega arith)
-      go Open q (Shut r) h p = absurd (let z : ◌≡◌ {A = ℕ} 0 1 = cc in omega arith)
-      go Open q Open h p =
+      go (Err r) q request h p = absurd (let z : ◌≡◌ {A = ℕ} 0 1 = cc in omega arith)
+      go (Ok _) q (Err r) h p = absurd (let z : ◌≡◌ {A = ℕ} 0 1 = cc in omega arith)
+      go (Ok _) q (Ok _) h p =
           let same : words ≡ need n = cc in
           let e = gate_open a (sym q) in
           record {

@@ -8,8 +8,8 @@ use lib.ListN.{length}
 use Rattle.layout.specs.Numbers.{need}
 use Rattle.layout.specs.Walk.{chunks_of}
 use Rattle.layout.specs.Reasons.{arena_gate, request_gate}
-use Rattle.layout.specs.declared.Gate.{Gate}
-use Rattle.layout.specs.declared.Gate.TheVariants.{Open, Shut}
+use Rattle.layout.specs.Reasons.{Gate}
+use Rattle.std.specs.Prelude.{Ok, Err}
 use Rattle.layout.specs.declared.Reason.{Reason}
 use Rattle.rules.specs.Answers.{Result, Gives, refusal, refused, pass}
 use Rattle.rules.specs.Spots.{Spot, nowhere, at, held}
@@ -40,20 +40,20 @@ module _ (a : List ℕ) (b : ℕ) where
   not_located why e result = go (arena_gate a) (held b (chunks_of a)) e
     where
       go : (gate : Gate) (spot : Spot) → NotLocated why ≡ located_by gate (place_of spot) → pass gate (on_block spot result) ≡ refused why
-      go (Shut r) spot p = cc
-      go Open nowhere p = cc
-      go Open (at pre k post) p = absurd (let z : ◌≡◌ {A = ℕ} 0 1 = cc in omega arith)
+      go (Err r) spot p = cc
+      go (Ok _) nowhere p = cc
+      go (Ok _) (at pre k post) p = absurd (let z : ◌≡◌ {A = ℕ} 0 1 = cc in omega arith)
 
   -- the arena is sound, and the block was found
-  pub block_located : (link chunk : ℕ) → Chunk link chunk ≡ located a b → (arena_gate a ≡ Open) × FoundBlock a b link chunk
+  pub block_located : (link chunk : ℕ) → Chunk link chunk ≡ located a b → (arena_gate a ≡ Ok tt) × FoundBlock a b link chunk
   unfolding located place_of
   block_located link chunk e = go (arena_gate a) refl (held b (chunks_of a)) refl e
     where
       go : (gate : Gate) → arena_gate a ≡ gate → (spot : Spot) → held b (chunks_of a) ≡ spot → Chunk link chunk ≡ located_by gate (place_of spot)
-          → (arena_gate a ≡ Open) × FoundBlock a b link chunk
-      go (Shut r) g spot q p = absurd (let z : ◌≡◌ {A = ℕ} 0 1 = cc in omega arith)
-      go Open g nowhere q p = absurd (let z : ◌≡◌ {A = ℕ} 0 1 = cc in omega arith)
-      go Open g (at pre k post) q p =
+          → (arena_gate a ≡ Ok tt) × FoundBlock a b link chunk
+      go (Err r) g spot q p = absurd (let z : ◌≡◌ {A = ℕ} 0 1 = cc in omega arith)
+      go (Ok _) g nowhere q p = absurd (let z : ◌≡◌ {A = ℕ} 0 1 = cc in omega arith)
+      go (Ok _) g (at pre k post) q p =
           let is : At link chunk ≡ place_of (at pre k post) = cc in
           (g, found_block a b link chunk (gate_open a (sym g)) (rw q is))
 
@@ -72,11 +72,11 @@ module _ (a : List ℕ) (b n : ℕ) where
       go (NotLocated r) q request h p =
           let is : why ≡ r = cc in
           rw (not_located a b r (sym q) _, is) (record { answers = refl; leaves = refl })
-      go (Chunk link chunk) q (Shut r) h p =
+      go (Chunk link chunk) q (Err r) h p =
           let is : why ≡ r = cc in
           let (opened, found) = block_located a b link chunk (sym q) in
           rw (opened, found.4, h, is) (record { answers = refl; leaves = refl })
-      go (Chunk link chunk) q Open h p = absurd (let z : ◌≡◌ {A = ℕ} 0 1 = cc in omega arith)
+      go (Chunk link chunk) q (Ok _) h p = absurd (let z : ◌≡◌ {A = ℕ} 0 1 = cc in omega arith)
 
   -- a live chunk and a need: whoever follows a rule there does what the call of that rule comes to
   pub record Aimed (link chunk words : ℕ) : Type 0 where
@@ -93,8 +93,8 @@ module _ (a : List ℕ) (b n : ℕ) where
           → Block link chunk words ≡ target_by place (asked_by request (need n))
           → Aimed link chunk words
       go (NotLocated r) q request h p = absurd (let z : ◌≡◌ {A = ℕ} 0 1 = cc in omega arith)
-      go (Chunk at-link at-chunk) q (Shut r) h p = absurd (let z : ◌≡◌ {A = ℕ} 0 1 = cc in omega arith)
-      go (Chunk at-link at-chunk) q Open h p =
+      go (Chunk at-link at-chunk) q (Err r) h p = absurd (let z : ◌≡◌ {A = ℕ} 0 1 = cc in omega arith)
+      go (Chunk at-link at-chunk) q (Ok _) h p =
           let is : Chunk link chunk ≡ located a b = cc in
           let same : words ≡ need n = cc in
           let (opened, found) = block_located a b link chunk is in

@@ -5,119 +5,72 @@
 ghost use Rattle.std.specs.Prelude.{◌≡◌, true};
 ghost use Rattle.layout.specs.Numbers.{lawful};
 ghost use Rattle.ways.specs.Ways.{Picked};
-ghost use Rattle.targets.specs.Targets.{need_in, asked_for, located, target_of, granted_of, GrantsFrom, StartSmall, start_in};
+ghost use Rattle.targets.specs.Targets.{need_in, asked_for, located, target_of, GrantsFrom, StartSmall, start_in};
 
 use answers::Granted;
-use layout::{Gate, Reason, wide};
+use layout::{Ask, Reason};
 use passes::places;
 use passes::places::Place;
-use ways::Way;
-
-// The need of a new block; or why the request is refused.
-#[derive(Clone, Copy)]
-pub enum Asked {
-    Need(usize),
-    Refused(Reason),
-}
 
 // A request for `n` words in an arena of `words` words.
-fn need_in(words: usize, n: u32) -> Asked
+fn need_in(words: usize, n: u32) -> Result<Ask, Reason>
     requires { lawful words ≡ true }
     ensures { result ≡ need_in words n }
 {
-    let request = layout::check_request(words, wide(n));
-    if let Gate::Shut(why) = request {
-        return Asked::Refused(why);
-    }
-    Asked::Need(layout::need(wide(n)))
+    layout::check_request(words, n as usize)?;
+    Ok(Ask {
+        need: layout::need(n as usize),
+        asked: n,
+    })
 }
 
 // A request for a new block of `n` words: the arena is checked, and then the request.
-pub fn ask(a: &[u32], n: u32) -> Asked
+pub fn ask(a: &[u32], n: u32) -> Result<Ask, Reason>
     ensures { result ≡ asked_for a.now n }
 {
-    let arena = walk::check_arena(a);
-    if let Gate::Shut(why) = arena {
-        return Asked::Refused(why);
-    }
+    walk::check_arena(a)?;
     need_in(a.len(), n)
 }
 
-// A block's chunk, and its link word; or why a call on the block is refused.
-#[derive(Clone, Copy)]
-pub enum Located {
-    Chunk { link: usize, chunk: usize },
-    Refused(Reason),
-}
-
-// Block `b`: the arena is checked, and the block is searched for.
-pub fn locate(a: &[u32], b: u32) -> Located
+// Where block `b` stands: the arena is checked, and the block is searched for.
+pub fn locate(a: &[u32], b: u32) -> Result<Place, Reason>
     ensures { result ≡ located a.now b }
 {
-    let arena = walk::check_arena(a);
-    if let Gate::Shut(why) = arena {
-        return Located::Refused(why);
-    }
-    let place = places::find(a, wide(b));
-    let Place::At(link, chunk) = place else {
-        return Located::Refused(Reason::NotABlock);
-    };
-    Located::Chunk { link, chunk }
+    walk::check_arena(a)?;
+    places::find(a, b as usize).ok_or(Reason::NotABlock)
 }
 
-// The chunk of a block that is granted anew, its link word, and the need; or why the call is refused.
+// A block that is granted anew, and what is asked.
 #[derive(Clone, Copy)]
-pub enum Target {
-    Block {
-        link: usize,
-        chunk: usize,
-        need: usize,
-    },
-    Refused(Reason),
+pub struct Target {
+    pub place: Place,
+    pub ask: Ask,
 }
 
-// Block `b` and the need of `n` words.
-pub fn target_of(a: &[u32], b: u32, n: u32) -> Target
+// Block `b` and a request for `n` words: the block is looked for first.
+pub fn target_of(a: &[u32], b: u32, n: u32) -> Result<Target, Reason>
     ensures { result ≡ target_of a.now b n }
 {
-    let located = locate(a, b);
-    match located {
-        Located::Chunk { link, chunk } => {
-            let asked = need_in(a.len(), n);
-            match asked {
-                Asked::Need(need) => Target::Block { link, chunk, need },
-                Asked::Refused(why) => Target::Refused(why),
-            }
-        }
-        Located::Refused(why) => Target::Refused(why),
-    }
+    let place = locate(a, b)?;
+    let ask = need_in(a.len(), n)?;
+    Ok(Target { place, ask })
 }
 
-// A way as the answer of a call that grants; `why` is what the call says where it is shut.
-pub fn answer(way: Way, why: Reason) -> Granted
-    ensures { result ≡ granted_of why way }
+// A new block for what is asked, from the free chunk that a search found, as an alloc answers it.
+pub fn grant(a: &mut [u32], place: Option<Place>, ask: Ask) -> Granted
+    requires { Picked a.old ask.need ask.asked place }
+    ensures { GrantsFrom a.old ask.need ask.asked place result a.new }
 {
-    match way {
-        Way::Grants(block, granted) => Granted::Block { block, granted },
-        Way::Shut => Granted::Refused(why),
-    }
-}
-
-// A new block for a request of `asked` words, from the free chunk that a search found, as an alloc answers it.
-pub fn grant(a: &mut [u32], place: Place, need: usize, asked: u32) -> Granted
-    requires { Picked a.old need asked place }
-    ensures { GrantsFrom a.old need asked place result a.new }
-{
-    answer(ways::allot(a, place, need, asked), Reason::NoRoom)
+    ways::allot(a, place, ask).ok_or(Reason::NoRoom)
 }
 
 // The start of a chunk that a search found; `rover` where it found none.
-pub fn start_of(place: Place, rover: u32) -> u32
+pub fn start_of(place: Option<Place>, rover: u32) -> u32
     requires { StartSmall place }
     ensures { result ≡ start_in rover place }
 {
     match place {
-        Place::At(_, chunk) => chunk as u32,
-        Place::Nowhere => rover,
+        Some(found) => found.chunk as u32,
+        None => rover,
     }
 }

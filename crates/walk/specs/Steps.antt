@@ -1,14 +1,14 @@
 -- The check walk as the code makes it. No public contract of a call cites this file.
-use Rattle.std.specs.Prelude.{ℕ, ◌+◌, ◌<◌, ◌≤◌, ◌≡◌, ◌≢◌, cond, false, List, length, get_or}
+use Rattle.std.specs.Prelude.{ℕ, ◌+◌, ◌<◌, ◌≤◌, ◌≡◌, ◌≢◌, cond, false, List, length, get_or, Option, None, Some, Result, Ok, Err}
 use Rattle.layout.specs.Numbers.{lawful}
 use Rattle.layout.specs.Walk.{Walked, broken, whole, is_live, header_fits, walk_from, sound, chunks_of}
 use Rattle.walk.specs.declared.Passed.{Passed}
 use Rattle.layout.specs.declared.Reason.{Reason}
 use Rattle.layout.specs.declared.Reason.TheVariants.{Length, Damaged}
 
--- the size of the chunk that may stand at word `c`, or 0 where none can
-unfoldable pub size_at : List ℕ → ℕ → ℕ
-size_at a c = cond (header_fits a c) (get_or a c 0) 0
+-- the size of the chunk that may stand at word `c`
+unfoldable pub size_at : List ℕ → ℕ → Option ℕ
+size_at a c = cond (header_fits a c) (Some (get_or a c 0)) None
 
 -- how many chunks have been met at the end of a walk, `met` of them before; 0 where it breaks
 abbrev pub met_by : ℕ → Walked → ℕ
@@ -26,12 +26,8 @@ pub record ComesTo (a : List ℕ) (c met r more : ℕ) : Type 0 where
 -- it has come past all live chunks that follow each other there
 pub record PastLive (a : List ℕ) (c met : ℕ) (passed : Passed) : Type 0 where
   pub comes : ComesTo a c met passed.at passed.met
-  pub stops : passed.at < length a → size_at a passed.at ≢ 0 → is_live (get_or a (passed.at + 1) 0) ≡ false
+  pub stops : passed.at < length a → size_at a passed.at ≢ None → is_live (get_or a (passed.at + 1) 0) ≡ false
 
--- how many chunks a sound arena has; 0 where the words are no sound arena
-unfoldable pub chunk_count : List ℕ → ℕ
-chunk_count a = cond (sound a) (length (chunks_of a)) 0
-
--- why `n` words that are no sound arena are refused
-abbrev pub fault_of : ℕ → Reason
-fault_of n = cond (lawful n) Damaged Length
+-- how many chunks a sound arena has; or why the words are none: Length, or else Damaged
+unfoldable pub chunk_count : List ℕ → Result ℕ Reason
+chunk_count a = cond (lawful (length a)) (cond (sound a) (Ok (length (chunks_of a))) (Err Damaged)) (Err Length)

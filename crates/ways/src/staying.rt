@@ -7,8 +7,9 @@ ghost use Rattle.stores.specs.RoomAt.{room_written};
 ghost use Rattle.ways.specs.Ways.{FollowsAt};
 ghost use Rattle.ways.specs.Trims.{RoomFor};
 
-use super::Way;
-use layout::wide;
+use answers::Grant;
+use layout::Ask;
+use passes::places::Place;
 use stores::release::Room;
 use stores::taking::Piece;
 
@@ -27,37 +28,37 @@ fn kept_words(need: usize, size: usize, words: usize) -> usize
     need
 }
 
-// The chunk at `chunk` keeps the first `keep` words of its room, where `asked` words are asked for; those over, if there
+// The chunk at a place keeps the first `keep` words of its room, where `asked` words are asked for; those over, if there
 // are any, become a free chunk.
-fn trim(a: &mut [u32], link: usize, chunk: usize, keep: usize, asked: u32, room: Room)
-    requires { RoomFor (length a.old) link chunk keep asked room }
-    ensures { a.new ≡ room_written link chunk (trim keep asked room.words) room.next a.old }
+fn trim(a: &mut [u32], place: Place, keep: usize, asked: u32, room: Room)
+    requires { RoomFor (length a.old) place.link place.chunk keep asked room }
+    ensures { a.new ≡ room_written place.link place.chunk (trim keep asked room.words) room.next a.old }
 {
     let words = room.words;
     let next = room.next;
     if words <= keep {
-        stores::change(a, link, next);
-        stores::put_live(a, chunk, keep, asked);
+        stores::change(a, place.link, next);
+        stores::put_live(a, place.chunk, keep, asked);
         return;
     }
-    let rest = chunk + keep;
-    stores::change(a, link, rest);
-    stores::put_live(a, chunk, keep, asked);
+    let rest = place.chunk + keep;
+    stores::change(a, place.link, rest);
+    stores::put_live(a, place.chunk, keep, asked);
     stores::put(a, rest, words - keep, next);
 }
 
 // Ways 1 and 2: the block stays where it is.
-pub fn resize_at(a: &mut [u32], link: usize, chunk: usize, need: usize, asked: u32) -> Way
-    requires { LiveAt a.old link chunk × Needed need asked }
-    ensures { FollowsAt resized a.old link chunk need asked result a.new }
+pub fn resize_at(a: &mut [u32], place: Place, ask: Ask) -> Option<Grant>
+    requires { LiveAt a.old place.link place.chunk × Needed ask.need ask.asked }
+    ensures { FollowsAt resized a.old place.link place.chunk ask.need ask.asked result a.new }
 {
-    let size = wide(a[chunk]);
-    let room = stores::release::room_at(a, link, chunk);
-    let words = room.words;
-    if words < need {
-        return Way::Shut;
+    let chunk = place.chunk;
+    let size = a[chunk] as usize;
+    let room = stores::release::room_at(a, place);
+    if room.words < ask.need {
+        return None;
     }
-    let keep = kept_words(need, size, words);
-    trim(a, link, chunk, keep, asked, room);
-    super::grants(Piece { chunk, words: keep })
+    let keep = kept_words(ask.need, size, room.words);
+    trim(a, place, keep, ask.asked, room);
+    Some(super::grant(Piece { chunk, words: keep }))
 }

@@ -3,7 +3,7 @@ use Rattle.std.proofs.Common.{ℕ, [], ◌∷◌, ◌-◌, ◌≡◌, refl, ap, 
 use Rattle.layout.specs.Numbers.{header_words}
 use Rattle.layout.specs.Chunks.{live}
 use Rattle.layout.specs.Reasons.{arena_gate}
-use Rattle.layout.specs.declared.Gate.TheVariants.{Open}
+use Rattle.std.specs.Prelude.{Ok}
 use Rattle.rules.specs.Answers.{success}
 use Rattle.rules.specs.Calls.{size_on}
 use Rattle.passes.proofs.Standing.{Reads, reads, reads_asked}
@@ -17,7 +17,7 @@ same_fields : {n n' g g' : ℕ} → n ≡ n' → g ≡ g' → success (n ∷ g �
 same_fields p q = rw (p, q)
 
 -- the block was found
-here : (c : In-Chunk) → (arena_gate c.args.a.now ≡ Open) × FoundBlock c.args.a.now c.args.b c.in-Chunk.link c.in-Chunk.chunk
+here : (c : In-Chunk) → (arena_gate c.args.a.now ≡ Ok tt) × FoundBlock c.args.a.now c.args.b c.in-Chunk.link c.in-Chunk.chunk
 here c = block_located _ _ _ _ c.in-Chunk.ensures
 
 -- its chunk, in numbers

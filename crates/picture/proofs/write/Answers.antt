@@ -2,7 +2,7 @@
 use Rattle.std.proofs.Common.{ℕ, List, ◌≡◌, ◌≤◌, ◌∙◌, length, sym, arith}
 use Rattle.layout.specs.Numbers.{greatest_length}
 use Rattle.layout.specs.Reasons.{arena_gate}
-use Rattle.layout.specs.declared.Gate.TheVariants.{Open}
+use Rattle.std.specs.Prelude.{Ok}
 use Rattle.layout.proofs.Round.{sound_chunks}
 use Rattle.rules.proofs.Gates.{gate_open}
 use Rattle.rules.proofs.Pictures.{picture_length_lem}
@@ -10,7 +10,7 @@ use Rattle.picture.proofs.LineByLine.{writes_shut, writes_short, writes_put}
 use Rattle.picture.proofs.write.Goals as goal
 
 -- an arena is not too long
-most : (a : List ℕ) → Open ≡ arena_gate a → length a ≤ greatest_length
+most : (a : List ℕ) → Ok tt ≡ arena_gate a → length a ≤ greatest_length
 most a opens = (sound_chunks a (gate_open a opens)).law.most
 
 pub returns-in-Shut : goal.returns-in-Shut
