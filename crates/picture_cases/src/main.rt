@@ -30,8 +30,8 @@ struct Buffers {
 // checks the arena that the text's bytes spell.
 fn answer(call: u32, text: &mut [u8], a: &mut [u32]) -> Numbers {
     match call {
-        1 => answers::written_numbers(picture::write(a, text)),
-        2 => answers::finish_numbers(picture::read(text, a)),
+        1 => answers::in_numbers(picture::write(a, text)),
+        2 => answers::in_numbers(picture::read(text, a)),
         3 => Numbers {
             code: desk::check(text),
             count: 0,
