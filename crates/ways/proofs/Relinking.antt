@@ -10,14 +10,14 @@ use lib.ListN.{length}
 use borrow.Author.Tests.{eq-eqb, ne_eqb}
 use Rattle.std.specs.Prelude.{Some}
 use Rattle.layout.specs.Numbers.{first_chunk, list_word, header_words, least_size}
-use Rattle.layout.specs.Chunks.{Chunk, free, live, total, written}
+use Rattle.layout.specs.Chunks.{Chunk, free, live, total}
 use Rattle.layout.specs.Walk.{chunks_of}
 use Rattle.layout.specs.Links.{link_at}
 use Rattle.layout.proofs.Holds.{total_append}
 use Rattle.layout.proofs.Written.{length_written}
 use Rattle.rules.specs.Spots.{at}
 use Rattle.rules.specs.Fits.{first_fit_policy}
-use Rattle.rules.specs.Rules.{taken, cut, copied, relocated, released}
+use Rattle.rules.specs.Rules.{taken, cut, copied, relocated}
 use Rattle.rules.specs.Rooms.{Needed}
 use Rattle.rules.proofs.Remainder.{Remainder, split, whole, remainder, cut_numbers}
 use Rattle.rules.proofs.OldBlock.{Order, gap_above, gap_below, order, old_before, old_after, old_stands, moved_sound, moved_chunks}
