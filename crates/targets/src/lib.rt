@@ -74,8 +74,5 @@ pub fn start_of(place: Option<Place>, rover: u32) -> u32
     requires { StartSmall place }
     ensures { result ≡ start_in rover place }
 {
-    match place {
-        Some(found) => found.chunk as u32,
-        None => rover,
-    }
+    place.map_or(rover, |found| found.chunk as u32)
 }
