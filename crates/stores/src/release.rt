@@ -30,6 +30,7 @@ pub fn room_at(a: &[u32], place: Place) -> Room
 }
 
 // Whether the free chunk whose second word is the place's link word ends where the place's chunk starts.
+#[tactic(auto, using(crate::proofs::Releasing::ends_none, crate::proofs::Releasing::ends_where))]
 fn ends_at(a: &[u32], place: Place) -> bool
     requires { (place.link < place.chunk) × (place.chunk < length a.now) }
     ensures { result ≡ ends_at a.now place.link place.chunk }
