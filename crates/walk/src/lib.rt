@@ -51,14 +51,13 @@ fn past_live(a: &[u32], c: usize, met: usize) -> Passed
     let mut chunks = met;
     while at < a.len() {
         let Some(s) = size_at(a, at) else {
-            return Passed { at, met: chunks };
+            break;
         };
-        if is_live(a[at + 1]) {
-            at += s;
-            chunks += 1;
-        } else {
-            return Passed { at, met: chunks };
+        if !is_live(a[at + 1]) {
+            break;
         }
+        at += s;
+        chunks += 1;
     }
     Passed { at, met: chunks }
 }
