@@ -4,9 +4,10 @@ use mathlib.Core.Bool.{true}
 use mathlib.Core.List.{List}
 use Prim.Native.Nat.{ℕ, ◌+◌, ◌≤◌}
 use native.Mathlib.Omega.{arith}
-use Rattle.std.specs.Prelude.{None, Some}
+use Rattle.std.specs.Prelude.{Option, None, Some, MatchOption}
+use Rattle.std.proofs.lemmas.Option.{same_Some}
 use Rattle.layout.specs.Numbers.{first_chunk, header_words}
-use Rattle.layout.specs.Chunks.{Chunk, free, live, total}
+use Rattle.layout.specs.Chunks.{Chunk, free, live}
 use Rattle.layout.specs.Walk.{sound, chunks_of}
 use Rattle.rules.specs.Spots.{Spot, nowhere, at, lowest, held}
 use Rattle.rules.specs.Fits.{fits_from, or_else_at, first_fit_policy, next_fit_policy}
@@ -17,8 +18,8 @@ use Rattle.passes.specs.declared.places.Place.{Place}
 
 -- a place, by its two words
 same_place : {link chunk link' chunk' : ℕ} → Some (place_at link chunk) ≡ Some (place_at link' chunk') → (link ≡ link') × (chunk ≡ chunk')
-same_place {link} {chunk} {link'} {chunk'} e =
-    let p : place_at link chunk ≡ place_at link' chunk' = cc in
+same_place e =
+    let p = same_Some _ _ e in
     (ap (λ (x : Place). x.link) p, ap (λ (x : Place). x.chunk) p)
 
 -- a spot is that of the free chunk which starts at `chunk`, and has the need
@@ -56,19 +57,13 @@ unfolding place_of
 found_nowhere nowhere e = refl
 found_nowhere (at pre k post) e = cc
 
--- ---- next fit
+-- ---- next fit: what was found from the rover on or, where none was found there, what `round` says
 
-module _ (rover need : ℕ) (ks : List Chunk) where
-  -- from the rover on a chunk was found
-  pub found_from_rover : (link chunk : ℕ) → Some (place_at link chunk) ≡ place_of (lowest (fits_from rover need) first_chunk ks)
-      → Some (place_at link chunk) ≡ place_of (next_fit_policy rover need ks)
-  unfolding place_of
-  found_from_rover link chunk = go (lowest (fits_from rover need) first_chunk ks)
-    where
-      go : (spot : Spot) → Some (place_at link chunk) ≡ place_of spot → Some (place_at link chunk) ≡ place_of (or_else_at spot (first_fit_policy need ks))
-      go nowhere e = absurd (let z : ◌≡◌ {A = ℕ} 0 1 = cc in omega arith)
-      go (at pre k post) e = e
-
-  -- none was found there, so once round it is the lowest
-  pub found_round : None ≡ place_of (lowest (fits_from rover need) first_chunk ks) → first_fit_policy need ks ≡ next_fit_policy rover need ks
-  found_round e = rw (found_nowhere _ e)
+pub found_next : (rover need : ℕ) (ks : List Chunk) {from result : Option Place} (round : Type 0) → from ≡ place_of (lowest (fits_from rover need) first_chunk ks)
+    → (round → result ≡ place_of (first_fit_policy need ks)) → MatchOption from round (λ p. result ≡ Some p) → result ≡ place_of (next_fit_policy rover need ks)
+unfolding place_of
+found_next rover need ks {result = result} round e first m = go (lowest (fits_from rover need) first_chunk ks) (rw e at m)
+  where
+    go : (spot : Spot) → MatchOption (place_of spot) round (λ p. result ≡ Some p) → result ≡ place_of (or_else_at spot (first_fit_policy need ks))
+    go nowhere q = first q
+    go (at pre k post) q = q

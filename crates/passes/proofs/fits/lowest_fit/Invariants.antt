@@ -1,5 +1,5 @@
--- `fits::lowest_fit` meets its contract. The loop's invariant: from word `link` on the links lead through what is left of
--- the free list, in which the first chunk is looked for that starts at word `from` or above and fits.
+-- `fits::lowest_fit` meets its contract. The loop's invariant: from word `link` on the links lead through what is left
+-- of the free list, in which the first chunk is looked for that starts at word `from` or above and fits.
 -- The measure is what is left of the words.
 use Prim.Native.Nat.{ℕ, ◌-◌}
 use mathlib.Core.List.{List}
