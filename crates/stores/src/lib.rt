@@ -22,6 +22,7 @@ pub fn change(a: &mut [u32], i: usize, v: usize)
 }
 
 // Words `i` and `i + 1` become `v` and `w`.
+#[tactic(auto, unfolding(layout::specs::Chunks::header))]
 pub fn put(a: &mut [u32], i: usize, v: usize, w: usize)
     requires { (i + 1 < length a.old) × (v < word_values) × (w < word_values) }
     ensures { a.new ≡ header i v w a.old }

@@ -47,9 +47,7 @@ pub fn release(a: &mut [u32], place: Place)
     requires { LiveAt a.old place.link place.chunk }
     ensures { FreedAt a.old place.link place.chunk a.new }
 {
-    let room = room_at(a, place);
-    let words = room.words;
-    let next = room.next;
+    let Room { words, next } = room_at(a, place);
     if ends_at(a, place) {
         let left = place.link - 1;
         super::put(a, left, place.chunk - left + words, next);
