@@ -85,8 +85,7 @@ module _ (a : List ℕ) (b n : ℕ) where
 
   -- a live chunk and an ask: whoever follows a rule there does what the call of that rule comes to
   pub record Aimed (target : Target) : Type 0 where
-    pub stands : LiveAt a target.place.link target.place.chunk
-    pub needed : Needed target.ask.need target.ask.asked
+    pub asked : LiveAt a target.place.link target.place.chunk × Needed target.ask.need target.ask.asked
     pub gives : (last : Reason) (rule : Regrant) (answer : Option Grant) (after : List ℕ)
         → FollowsAt rule a target.place.link target.place.chunk target.ask.need target.ask.asked answer after
         → Gives (regrant_by last rule a b n) (granted_numbers (ok_or answer last)) after
@@ -106,7 +105,6 @@ module _ (a : List ℕ) (b n : ℕ) where
           let (pre, s, asked, post, spot, st, number) = found in
           rw is
           (record {
-            stands = (pre, s, asked, post, st);
-            needed = request_open (length a) n (sound_lawful a st.is_sound) (sym h);
+            asked = ((pre, s, asked, post, st), request_open (length a) n (sound_lawful a st.is_sound) (sym h));
             gives = λ last rule answer after f. rw (opened, spot, h) (way_gives last _ a answer after (rw number at (f pre s asked post st)));
           })
