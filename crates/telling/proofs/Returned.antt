@@ -1,53 +1,40 @@
 -- The code and the fields that go into a lent array are together the answer.
-use Prim.Native.Nat.{ℕ}
+use Prim.Native.Nat.{ℕ, ◌≤◌}
 use mathlib.Core.Path.{◌≡◌, refl, sym, ap, ◌∙◌}
 use mathlib.Core.List.{List, [], ◌∷◌}
-use lib.ListN.{get_or}
+use native.Mathlib.Omega.{arith}
+use lib.ListN.{length, take, replicate, length-replicate}
+use Rattle.layout.specs.declared.Reason.{Reason}
 use Rattle.rules.specs.Answers.{Answer, Outcome}
 use Rattle.rules.specs.Calls.{alloc_next_on, Roves, write_on}
-use Rattle.answers.specs.Readings.{finish_numbers, granted_numbers, sized_numbers, reported_numbers, written_numbers}
-use Rattle.answers.specs.Padded.{padded}
+use Rattle.answers.specs.Readings.{read}
+use Rattle.answers.specs.Padded.{four, padded}
 use Rattle.answers.specs.Determined.{Determined}
-use Rattle.answers.specs.declared.Finish.{Finish}
-use Rattle.answers.specs.declared.Finish.TheVariants.{Done, Refused as NotDone}
-use Rattle.answers.specs.declared.Granted.{Granted}
-use Rattle.answers.specs.declared.Granted.TheVariants.{Block, Refused as NotGranted}
-use Rattle.answers.specs.declared.Sized.{Sized}
-use Rattle.answers.specs.declared.Sized.TheVariants.{Words, Refused as NotSized}
-use Rattle.answers.specs.declared.Reported.{Reported}
-use Rattle.answers.specs.declared.Reported.TheVariants.{Counts, Refused as NotReported}
-use Rattle.answers.specs.declared.Written.{Written}
-use Rattle.answers.specs.declared.Written.TheVariants.{Bytes, Refused as NotWritten}
+use Rattle.answers.specs.FieldLaws.{FieldLaws}
 use Rattle.picture.specs.Writing.{Writes}
 use Rattle.picture.proofs.Promised.{writes_determined}
+use Rattle.std.specs.Prelude.{Result, Ok, Err}
 use Rattle.telling.specs.Returned.{returned}
 
 -- ---- the answers, by their numbers
 
-pub finish_returned : (r : Finish) → returned (padded (finish_numbers r)).code [] ≡ finish_numbers r
-finish_returned Done = refl
-finish_returned (NotDone why) = refl
+-- no more than four fields are the first of the four, all of them
+fields_told : (values : List ℕ) → length values ≤ 4 → take (length values) (four values) ≡ values
+fields_told [] few = refl
+fields_told (w ∷ []) few = refl
+fields_told (w ∷ (x ∷ [])) few = refl
+fields_told (w ∷ (x ∷ (y ∷ []))) few = refl
+fields_told (w ∷ (x ∷ (y ∷ (z ∷ [])))) few = refl
+fields_told (w ∷ (x ∷ (y ∷ (z ∷ (v ∷ values))))) few = absurd (omega arith)
 
-pub granted_returned : (r : Granted)
-    → let x = padded (granted_numbers r) in returned x.code (get_or x.fields 0 0 ∷ get_or x.fields 1 0 ∷ []) ≡ granted_numbers r
-granted_returned (Block block granted) = refl
-granted_returned (NotGranted why) = refl
-
-pub sized_returned : (r : Sized)
-    → let x = padded (sized_numbers r) in returned x.code (get_or x.fields 0 0 ∷ get_or x.fields 1 0 ∷ []) ≡ sized_numbers r
-sized_returned (Words asked granted) = refl
-sized_returned (NotSized why) = refl
-
-pub reported_returned : (r : Reported)
-    → let x = padded (reported_numbers r) in
-    returned x.code (get_or x.fields 0 0 ∷ get_or x.fields 1 0 ∷ get_or x.fields 2 0 ∷ get_or x.fields 3 0 ∷ []) ≡ reported_numbers r
-reported_returned (Counts free_words largest live_blocks free_chunks) = refl
-reported_returned (NotReported why) = refl
-
-pub written_returned : (r : Written)
-    → let x = padded (written_numbers r) in returned x.code (get_or x.fields 0 0 ∷ []) ≡ written_numbers r
-written_returned (Bytes bytes) = refl
-written_returned (NotWritten why) = refl
+-- the code and the first of the four are the answer
+pub told : {A : Type 0} {values : A → List ℕ} {count : ℕ} → FieldLaws values count → count ≤ 4 → (answer : Result A Reason)
+    → let x = padded (read values count answer) in returned x.code (take count x.fields) ≡ read values count answer
+told {values = values} laws few (Ok it) =
+    ap (returned 0) (ap (λ (n : ℕ). take n (four (values it))) (sym (laws.counted it)) ∙ fields_told (values it) (omega (arith, few, laws.counted it)))
+told {count = count} laws few (Err why) =
+    let long = length-replicate count 0 in
+    ap (returned _) (ap (λ (n : ℕ). take n (four (replicate count 0))) (sym long) ∙ fields_told (replicate count 0) (omega (arith, few, long)))
 
 -- ---- a contract leaves no choice
 
