@@ -1,9 +1,9 @@
 -- The code and the fields that go into a lent array are together the answer.
 use Prim.Native.Nat.{ℕ, ◌≤◌}
-use mathlib.Core.Path.{◌≡◌, refl, sym, ap, ◌∙◌}
-use mathlib.Core.List.{List, [], ◌∷◌}
+use mathlib.Core.Path.{◌≡◌, sym, ap, ◌∙◌}
+use mathlib.Core.List.{List}
 use native.Mathlib.Omega.{arith}
-use lib.ListN.{length, take, replicate, length-replicate}
+use lib.ListN.{take}
 use Rattle.layout.specs.declared.Reason.{Reason}
 use Rattle.rules.specs.Answers.{Answer, Outcome}
 use Rattle.rules.specs.Calls.{alloc_next_on, Roves, write_on}
@@ -11,30 +11,21 @@ use Rattle.answers.specs.Readings.{read}
 use Rattle.answers.specs.Padded.{four, padded}
 use Rattle.answers.specs.Determined.{Determined}
 use Rattle.answers.specs.FieldLaws.{FieldLaws}
+use Rattle.answers.proofs.Padded.{padded_told, read_count}
 use Rattle.picture.specs.Writing.{Writes}
 use Rattle.picture.proofs.Promised.{writes_determined}
-use Rattle.std.specs.Prelude.{Result, Ok, Err}
+use Rattle.std.specs.Prelude.{Result}
 use Rattle.telling.specs.Returned.{returned}
 
 -- ---- the answers, by their numbers
 
--- no more than four fields are the first of the four, all of them
-fields_told : (values : List ℕ) → length values ≤ 4 → take (length values) (four values) ≡ values
-fields_told [] few = refl
-fields_told (w ∷ []) few = refl
-fields_told (w ∷ (x ∷ [])) few = refl
-fields_told (w ∷ (x ∷ (y ∷ []))) few = refl
-fields_told (w ∷ (x ∷ (y ∷ (z ∷ [])))) few = refl
-fields_told (w ∷ (x ∷ (y ∷ (z ∷ (v ∷ values))))) few = absurd (omega arith)
-
 -- the code and the first of the four are the answer
 pub told : {A : Type 0} {values : A → List ℕ} {count : ℕ} → FieldLaws values count → count ≤ 4 → (answer : Result A Reason)
     → let x = padded (read values count answer) in returned x.code (take count x.fields) ≡ read values count answer
-told {values = values} laws few (Ok it) =
-    ap (returned 0) (ap (λ (n : ℕ). take n (four (values it))) (sym (laws.counted it)) ∙ fields_told (values it) (omega (arith, few, laws.counted it)))
-told {count = count} laws few (Err why) =
-    let long = length-replicate count 0 in
-    ap (returned _) (ap (λ (n : ℕ). take n (four (replicate count 0))) (sym long) ∙ fields_told (replicate count 0) (omega (arith, few, long)))
+told {values = values} {count} laws few answer =
+    let is = read values count answer in
+    let long = read_count laws answer in
+    ap (λ (n : ℕ). returned is.code (take n (four is.values))) (sym long) ∙ padded_told is (omega (arith, few, long))
 
 -- ---- a contract leaves no choice
 
