@@ -27,10 +27,8 @@ fn size_at(a: &[u32], c: usize) -> Option<usize>
     ensures { result ≡ size_at a.now c }
 {
     let s = a[c] as usize;
-    if s % 2 == 0 && LEAST_SIZE <= s && s <= a.len() - c {
-        if second_fits(s, a[c + 1]) {
-            return Some(s);
-        }
+    if s % 2 == 0 && LEAST_SIZE <= s && s <= a.len() - c && second_fits(s, a[c + 1]) {
+        return Some(s);
     }
     None
 }
@@ -44,6 +42,7 @@ struct Passed {
 
 // Goes past live chunks from word `c` on, before which `met` chunks were met, and ends where none stands: at a free
 // chunk, at the end, or at words that are no chunk.
+#[tactic(auto, using(crate::proofs::Meeting::size_bounds))]
 fn past_live(a: &[u32], c: usize, met: usize) -> Passed
     requires { (c ≤ length a.now) × (met ≤ c) }
     ensures { PastLive a.now c met result }
@@ -68,23 +67,19 @@ fn past_live(a: &[u32], c: usize, met: usize) -> Passed
 fn met_at_end(want: usize, met: usize) -> Option<usize>
     ensures { result ≡ cond (eqb want 0) (Some met) None }
 {
-    if want == 0 {
-        return Some(met);
-    }
-    None
+    (want == 0).then_some(met)
 }
 
 // The check walk from word `c`, where a live chunk or the control words end: how many chunks it has met at the end,
 // `met` of them before `c`, if it does not break. `want` is where the last link says that the next free chunk starts
 // (0: there is none).
 #[cycle(after_free_after_live)]
+#[tactic(auto, using(crate::proofs::Steps::past_laws))]
 fn after_live(a: &[u32], c: usize, want: usize, met: usize) -> Option<usize>
     requires { (c ≤ length a.now) × (met ≤ c) }
     ensures { result ≡ met_by met (walk_from a.now c want false) }
 {
-    let passed = past_live(a, c, met);
-    let at = passed.at;
-    let chunks = passed.met;
+    let Passed { at, met: chunks } = past_live(a, c, met);
     if at == a.len() {
         return met_at_end(want, chunks);
     }
@@ -97,6 +92,7 @@ fn after_live(a: &[u32], c: usize, want: usize, met: usize) -> Option<usize>
 
 // The check walk from word `c`, where a free chunk ends: only a live chunk or the end may follow.
 #[cycle(after_free_after_live)]
+#[tactic(auto, using(crate::proofs::Meeting::place_laws))]
 fn after_free(a: &[u32], c: usize, want: usize, met: usize) -> Option<usize>
     requires { (c ≤ length a.now) × (met ≤ c) }
     ensures { result ≡ met_by met (walk_from a.now c want true) }
@@ -113,6 +109,7 @@ fn after_free(a: &[u32], c: usize, want: usize, met: usize) -> Option<usize>
 }
 
 // How many chunks a sound arena has; or why the words are none: Length, then Damaged.
+#[tactic(auto, using(crate::proofs::Counted::count_laws))]
 pub fn count_chunks(a: &[u32]) -> Result<usize, Reason>
     ensures { result ≡ chunk_count a.now }
 {
@@ -126,6 +123,7 @@ pub fn count_chunks(a: &[u32]) -> Result<usize, Reason>
 }
 
 // The reasons for which words that have to be a sound arena are refused: Length, then Damaged.
+#[tactic(auto, using(crate::proofs::Counted::chunks_open, crate::proofs::Counted::no_chunks_shut))]
 pub fn check_arena(a: &[u32]) -> Result<(), Reason>
     ensures { result ≡ arena_gate a.now }
 {
