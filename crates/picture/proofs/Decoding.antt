@@ -8,7 +8,7 @@ use lib.ListN.{length, take, drop}
 use borrow.Author.Tests.{eq-eqb, ne_eqb}
 use Rattle.layout.specs.Numbers.{lawful}
 use Rattle.layout.specs.Reasons.{arena_gate}
-use Rattle.std.specs.Prelude.{Ok, Err}
+use Rattle.std.specs.Prelude.{Ok, Err, Option, None, Some}
 use Rattle.layout.specs.declared.Reason.{Reason}
 use Rattle.layout.specs.declared.Reason.TheVariants.{Length, Frame}
 use Rattle.digits.specs.Digits.{upper}
@@ -22,7 +22,6 @@ use Rattle.rules.proofs.Frames.{same_split}
 use Rattle.rules.proofs.Saying.{other_length_bad}
 use Rattle.frames.specs.Lines.{has_line}
 use Rattle.picture.specs.Decoding.{holds_frames, ReadsFrames, Finds, Accepts}
-use Rattle.picture.specs.declared.reading.Found.TheVariants.{Words, Bad}
 
 -- ---- a whole text: its first line, and then the frames
 
@@ -41,7 +40,7 @@ picture_parts text =
 -- ---- what is found of a text
 
 module _ (text buffer : List ℕ) where
-  pub finds_other_length : length text ≢ picture_length (standing_count text) → Finds (said text) Bad buffer
+  pub finds_other_length : length text ≢ picture_length (standing_count text) → Finds (said text) None buffer
   finds_other_length n = rw (other_length_bad text n) tt
 
   -- the first line and the frames decide
@@ -54,36 +53,36 @@ module _ (text buffer : List ℕ) where
       ap (λ (b : Bool). cond b (good (standing text)) bad)
       (picture_parts text ∙ ap (λ (k : ℕ). same (map upper (take k text)) (size_line n) && holds_frames 0 n (drop (line_length 0) text)) long)
 
-  pub finds_no_line : has_line (size_line (standing_count text)) text ≡ false → Finds (said text) Bad buffer
+  pub finds_no_line : has_line (size_line (standing_count text)) text ≡ false → Finds (said text) None buffer
   finds_no_line e = let q : said text ≡ bad = said_parts ∙ rw e in rw q tt
 
   module _ (line : has_line (size_line (standing_count text)) text ≡ true) {r : Bool} (f : ReadsFrames text (standing_count text) r buffer) where
-    pub finds_words : r ≡ true → Finds (said text) (Words (standing_count text)) buffer
+    pub finds_words : r ≡ true → Finds (said text) (Some (standing_count text)) buffer
     finds_words e =
         let n = standing_count text in
         let q : said text ≡ good (standing text) = said_parts ∙ rw (line, ← f.tells, e) in
         rw q (sym (standing_count_lem _ n (drop (line_length 0) text) refl), f.loads e)
 
-    pub finds_no_frames : r ≡ false → Finds (said text) Bad buffer
+    pub finds_no_frames : r ≡ false → Finds (said text) None buffer
     finds_no_frames e = let q : said text ≡ bad = said_parts ∙ rw (line, ← f.tells, e) in rw q tt
 
 -- ---- what comes of that
 
-found_bad : (s : Said) (buffer : List ℕ) → Finds s Bad buffer → s ≡ bad
+found_bad : (s : Said) (buffer : List ℕ) → Finds s None buffer → s ≡ bad
 found_bad bad buffer f = refl
 found_bad (good ws) buffer f = absurd f
 
-found_words : (s : Said) (n : ℕ) (buffer : List ℕ) → Finds s (Words n) buffer
+found_words : (s : Said) (n : ℕ) (buffer : List ℕ) → Finds s (Some n) buffer
     → (ws : List ℕ) × (s ≡ good ws) × (n ≡ length ws) × (n ≤ length buffer → take n buffer ≡ ws)
 found_words bad n buffer f = absurd f
 found_words (good ws) n buffer f = (ws, refl, f.0, f.1)
 
-pub reads_bad : (text a buffer : List ℕ) → Finds (said text) Bad buffer → Gives (read_on text a) (refusal 0 Frame) a
+pub reads_bad : (text a buffer : List ℕ) → Finds (said text) None buffer → Gives (read_on text a) (refusal 0 Frame) a
 unfolding read_on
 reads_bad text a buffer f = rw (found_bad (said text) buffer f) (record { answers = refl; leaves = refl })
 
 -- words that were found are accepted just where the text is read
-pub reads_words : (text a buffer : List ℕ) (n : ℕ) {answer : Answer} {after : List ℕ} → Finds (said text) (Words n) buffer
+pub reads_words : (text a buffer : List ℕ) (n : ℕ) {answer : Answer} {after : List ℕ} → Finds (said text) (Some n) buffer
     → Accepts n buffer a answer after → Gives (read_on text a) answer after
 unfolding read_on
 reads_words text a buffer n f accepts = accepts (said text) f
