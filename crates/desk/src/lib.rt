@@ -9,7 +9,7 @@ ghost use Rattle.desk.specs.Checks.{gate_number, bytes_gate};
 use layout::Reason;
 
 // Whether the words that bytes spell, four bytes each, the lowest first, are a sound arena: the reasons of every call.
-#[tactic(auto, using(crate::proofs::Checks::bytes_over, crate::proofs::Checks::whole_words, crate::proofs::Checks::unlawful_words))]
+#[tactic(auto, using(crate::proofs::Checks::reasons))]
 fn check_words(spelled: &[u8]) -> Result<(), Reason>
     ensures { result ≡ bytes_gate spelled.now }
 {

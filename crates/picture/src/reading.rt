@@ -46,6 +46,7 @@ fn read_frames(text: &[u8], n: usize, buffer: &mut [u32]) -> bool
 
 // Reads the words that a text says into the buffer, as far as these fit, and tells how many they are; none of a text
 // that is bad.
+#[tactic(auto, using(crate::proofs::Decoding::findings))]
 pub(crate) fn decode(text: &[u8], buffer: &mut [u32]) -> Option<usize>
     requires { frame_words ≤ length buffer.old }
     ensures { Finds (said text.now) result buffer.new }

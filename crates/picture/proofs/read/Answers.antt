@@ -1,6 +1,6 @@
 -- `read` meets its contract: the text is bad, or the words that were found in it are accepted or not.
-use Rattle.std.proofs.Common.{◌≡◌, Option, Some, ℕ, arith}
-use Rattle.picture.proofs.Decoding.{reads_bad, reads_words}
+use Rattle.std.proofs.Common.{◌≡◌, Some, arith}
+use Rattle.picture.proofs.Decoding.{reads_words}
 use Rattle.picture.proofs.read.Goals as goal
 
 pub returns : goal.returns

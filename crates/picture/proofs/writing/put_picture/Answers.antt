@@ -1,5 +1,5 @@
 -- `put_picture` meets its contract: the first line is put, and each step puts the frame of the next words.
-use Rattle.std.proofs.Common.{◌≡◌, ◌*◌, ◌+◌, ◌∙◌, [], length, min, ap, refl, sym, arith}
+use Rattle.std.proofs.Common.{◌≡◌, ◌*◌, ◌+◌, ◌∙◌, [], arith}
 use Rattle.digits.proofs.Putting.{put_length}
 use Rattle.rules.specs.Pictures.{line_length}
 use Rattle.rules.proofs.Pictures.{picture_length_lem}
@@ -22,8 +22,7 @@ pub loop-k-preserved : goal.loop-k-preserved
 loop-k-preserved c =
     let ((size, (split, count, some)), k, next, fits) = c.in-Some.ensures.steps in
     let further : (c.loop-k.k-iterator.count + 1) * 8 ≡ c.loop-k.k-iterator.count * 8 + 8 = omega arith in
-    let few = rw c.loop-k.invariant.0 at count in
-    (
+    let few = rw c.loop-k.invariant.0 at count in (
       size ∙ c.loop-k.invariant.0,
       rw (next, further) (drawing_next _ _ _ c.loop-k.invariant.1 _ _ split (some, few) (rw k at c.put_line-at-in-loop-k.ensures)),
     )
