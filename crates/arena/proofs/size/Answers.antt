@@ -23,7 +23,7 @@ stood c = reads _ _ _ _ _ _ (here c).1.5
 
 pub returns-in_err-chunk : goal.returns-in_err-chunk
 unfolding size_on
-returns-in_err-chunk c = 
+returns-in_err-chunk c =
     handed_on sizes_fields 2 _ _ c.from_residual.ensures.1
     (rw (not_located _ _ _ c.in_err-chunk.ensures _) (record { answers = refl; leaves = refl }))
 
