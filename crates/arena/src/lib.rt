@@ -12,6 +12,7 @@ use layout::Reason;
 use passes::fits;
 
 // Makes the whole arena one free chunk.
+#[tactic(auto, unfolding(rules::specs::Calls::start_on, layout::specs::Chunks::write, layout::specs::Chunks::written))]
 pub fn start(a: &mut [u32]) -> Finish
     ensures { Gives (start_on a.old) (finish_numbers result) a.new }
 {
@@ -132,6 +133,7 @@ pub fn view_mut(a: &mut [u32], b: u32) -> &mut [u32]
 }
 
 // The free words, the largest request that would be granted now, the live blocks and the free chunks.
+#[tactic(auto, using(walk::proofs::Counted::chunks_open, walk::proofs::Counted::no_chunks_shut, rules::proofs::Gates::gate_open, rules::proofs::ReportCounts::counts_small, rules::proofs::ReportCounts::live_or_free), unfolding(rules::specs::Calls::report_on))]
 pub fn report(a: &[u32]) -> Reported
     ensures { Gives (report_on a.now) (reported_numbers result) a.now }
 {

@@ -7,6 +7,7 @@ use Prim.Native.Nat.{ℕ, ◌+◌, ◌≤◌, ◌<◌}
 use native.Mathlib.Omega.{arith}
 use lib.ListN.{length}
 use borrow.Author.Tests.{eq-eqb, ne_eqb}
+use Rattle.std.specs.Prelude.{Option, None, Some}
 use Rattle.layout.specs.Numbers.{first_chunk, list_word, header_words}
 use Rattle.layout.specs.Chunks.{Chunk, free, live, total}
 use Rattle.layout.specs.Walk.{sound, chunks_of}
@@ -16,35 +17,34 @@ use Rattle.layout.proofs.Round.{sound_chunks}
 use Rattle.rules.specs.Spots.{Spot, nowhere, at, behind, lowest, is_block, held}
 use Rattle.rules.proofs.Lowest.{missed_nowhere}
 use Rattle.rules.proofs.Searches.{missed_below, missed_above}
-use Rattle.passes.specs.Places.{place_of}
+use Rattle.passes.specs.Places.{place_at, place_of}
 use Rattle.passes.specs.declared.places.Place.{Place}
-use Rattle.passes.specs.declared.places.Place.TheVariants.{At, Nowhere}
 use Rattle.passes.proofs.Passing.{Left, all_left, past}
 
 -- ---- a spot among chunks that begin at `c`, where word `base` names the first free one, as a search answers it
 
-unfoldable pub place_from : ℕ → ℕ → Spot → Place
-place_from base c nowhere = Nowhere
-place_from base c (at pre k post) = At (link_at base c pre) (c + total pre)
+unfoldable pub place_from : ℕ → ℕ → Spot → Option Place
+place_from base c nowhere = None
+place_from base c (at pre k post) = Some (place_at (link_at base c pre) (c + total pre))
 
 pub place_from_lem : (s : Spot) → place_from list_word first_chunk s ≡ place_of s
 unfolding place_from place_of
 place_from_lem nowhere = refl
 place_from_lem (at pre k post) = refl
 
-pub place_here : (base c : ℕ) (k : Chunk) (post : List Chunk) → place_from base c (at [] k post) ≡ At base c
+pub place_here : (base c : ℕ) (k : Chunk) (post : List Chunk) → place_from base c (at [] k post) ≡ Some (place_at base c)
 unfolding place_from
-place_here base c k post = ap (At base) (omega arith)
+place_here base c k post = ap (λ (d : ℕ). Some (place_at base d)) (omega arith)
 
 pub place_past_live : (base c s asked : ℕ) (spot : Spot) → place_from base c (behind (live s asked) spot) ≡ place_from base (c + s) spot
 unfolding place_from
 place_past_live base c s asked nowhere = refl
-place_past_live base c s asked (at pre k post) = ap (At (link_at base (c + s) pre)) (omega arith)
+place_past_live base c s asked (at pre k post) = ap (λ (d : ℕ). Some (place_at (link_at base (c + s) pre) d)) (omega arith)
 
 pub place_past_free : (base c s : ℕ) (spot : Spot) → place_from base c (behind (free s) spot) ≡ place_from (c + 1) (c + s) spot
 unfolding place_from
 place_past_free base c s nowhere = refl
-place_past_free base c s (at pre k post) = ap (At (link_at (c + 1) (c + s) pre)) (omega arith)
+place_past_free base c s (at pre k post) = ap (λ (d : ℕ). Some (place_at (link_at (c + 1) (c + s) pre) d)) (omega arith)
 
 -- ---- past the chunks below it, for block `b`
 
@@ -57,7 +57,7 @@ pub search_begins : (a : List ℕ) (b : ℕ) → sound a ≡ true → Going a b 
 search_begins a b e = record { left = all_left a e; goes = place_from_lem (held b (chunks_of a)) }
 
 -- the arena ends below `b`
-pub search_in_vain : (a : List ℕ) (b : ℕ) → sound a ≡ true → length a ≤ b → Nowhere ≡ place_of (held b (chunks_of a))
+pub search_in_vain : (a : List ℕ) (b : ℕ) → sound a ≡ true → length a ≤ b → None ≡ place_of (held b (chunks_of a))
 unfolding place_of
 search_in_vain a b e h =
     let l = all_left a e in
@@ -66,7 +66,7 @@ search_in_vain a b e h =
 module _ (a : List ℕ) (b link chunk : ℕ) where
   -- the chunk at `chunk` is the block
   pub search_stops : (s asked : ℕ) (ks : List Chunk) → Going a b link chunk (live s asked ∷ ks) → chunk + header_words ≡ b
-      → At link chunk ≡ place_of (held b (chunks_of a))
+      → Some (place_at link chunk) ≡ place_of (held b (chunks_of a))
   unfolding lowest
   search_stops s asked ks g t = sym (place_here link chunk (live s asked) ks) ∙ (rw (eq-eqb (chunk + header_words) b t) at g.goes)
 
@@ -87,7 +87,7 @@ module _ (a : List ℕ) (b link chunk : ℕ) where
       record { left = past a chunk (free s) ks g.left; goes = sym (place_past_free link chunk s _) ∙ g.goes }
 
   -- what is left lies above
-  pub search_above : (ks : List Chunk) → Going a b link chunk ks → b < chunk + header_words → Nowhere ≡ place_of (held b (chunks_of a))
+  pub search_above : (ks : List Chunk) → Going a b link chunk ks → b < chunk + header_words → None ≡ place_of (held b (chunks_of a))
   unfolding place_from
   search_above ks g h = rw (missed_nowhere (is_block b) chunk ks (missed_above b chunk ks h)) at g.goes
 
@@ -95,9 +95,9 @@ module _ (a : List ℕ) (b link chunk : ℕ) where
 
 -- the first of a list that passes a test, as a search answers it, with the word that names it; word `link` names the
 -- first of the list
-abbrev first_of : (ℕ → Chunk → Bool) → ℕ → List (ℕ × ℕ) → Place
-first_of test link [] = Nowhere
-first_of test link ((c, s) ∷ list) = cond (test c (free s)) (At link c) (first_of test (c + 1) list)
+abbrev first_of : (ℕ → Chunk → Bool) → ℕ → List (ℕ × ℕ) → Option Place
+first_of test link [] = None
+first_of test link ((c, s) ∷ list) = cond (test c (free s)) (Some (place_at link c)) (first_of test (c + 1) list)
 
 -- of the free list it is the lowest chunk that passes, if no live chunk does
 first_lowest : (test : ℕ → Chunk → Bool) → ((c s asked : ℕ) → test c (live s asked) ≡ false) → (link c : ℕ) (ks : List Chunk)
@@ -132,7 +132,7 @@ seek_begins a test miss e =
 
 module _ (a : List ℕ) (test : ℕ → Chunk → Bool) (link c s : ℕ) (list : List (ℕ × ℕ)) (g : Seeking a test link ((c, s) ∷ list)) where
   -- the first chunk of the list passes
-  pub seek_stops : test c (free s) ≡ true → At link c ≡ place_of (lowest test first_chunk (chunks_of a))
+  pub seek_stops : test c (free s) ≡ true → Some (place_at link c) ≡ place_of (lowest test first_chunk (chunks_of a))
   seek_stops t = rw t at g.goes
 
   -- it does not

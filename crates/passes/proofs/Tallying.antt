@@ -1,15 +1,16 @@
 -- How the loop along the free list comes to its counts.
 use mathlib.Core.Path.{◌≡◌, refl}
+use mathlib.Core.Logic.{◌≢◌}
 use mathlib.Core.Bool.{true}
 use mathlib.Core.List.{List, [], ◌∷◌}
 use Prim.Native.Nat.{ℕ, ◌+◌, ◌-◌, max}
 use native.Mathlib.Omega.{arith}
-use lib.ListN.{length}
+use lib.ListN.{length, get_or}
 use Rattle.layout.specs.Numbers.{first_chunk, list_word, header_words, greatest_length}
 use Rattle.layout.specs.Chunks.{Chunk, free, live}
 use Rattle.layout.specs.Walk.{sound, chunks_of}
 use Rattle.layout.specs.Links.{free_list, Chain}
-use Rattle.layout.proofs.Chain.{chain}
+use Rattle.layout.proofs.Chain.{chain, chain_goes_on}
 use Rattle.layout.proofs.Round.{sound_chunks}
 use Rattle.rules.specs.Rules.{free_words, widest, free_chunks}
 use Rattle.passes.specs.Tallies.{free_tally}
@@ -55,6 +56,14 @@ free_begins a e =
       all_chunks = omega (arith, l.chunks_listed);
       small = counts_small a e;
     }
+
+-- where the link names a chunk, the first of them is that one
+pub free_named : {a : List ℕ} {words largest chunks : ℕ} (chunk : ℕ)
+    → (link : ℕ) × (list : List (ℕ × ℕ)) × (chunk ≡ get_or a link 0) × CountingFree a words largest chunks link list → chunk ≢ 0
+    → (link : ℕ) × (rest : List (ℕ × ℕ)) × CountingFree a words largest chunks link ((chunk, get_or a chunk 0) ∷ rest)
+free_named {a} chunk (link, list, n, g) some =
+    let (rest, e) = chain_goes_on a link list g.leads chunk n some in
+    (link, rest, rw e at g)
 
 -- it counts the first of them: `size` and `most` are its words, and the largest request by then
 pub free_goes_on : (a : List ℕ) (words largest chunks link c s : ℕ) (list : List (ℕ × ℕ)) → CountingFree a words largest chunks link ((c, s) ∷ list)

@@ -54,31 +54,29 @@ module _ (a : List ℕ) (pre : List Chunk) (s asked : ℕ) (link chunk : ℕ) wh
   next_apart (live t other ∷ ks) n = record { words_are = refl; next_is = refl }
 
 -- what the code reads
-pub record Around (a : List ℕ) (link chunk size next : ℕ) : Type 0 where
+pub record Around (a : List ℕ) (link chunk : ℕ) : Type 0 where
   pub below : link < chunk
-  pub least : least_size ≤ size
-  pub inside : chunk + size ≤ length a
+  pub least : least_size ≤ get_or a chunk 0
+  pub inside : chunk + get_or a chunk 0 ≤ length a
   pub most : length a ≤ greatest_length
-  pub next_inside : next ≤ length a
-  pub next_room : next ≡ chunk + size → (least_size ≤ get_or a next 0) × (next + get_or a next 0 ≤ length a)
+  pub next_inside : get_or a link 0 ≤ length a
+  pub next_room : get_or a link 0 ≡ chunk + get_or a chunk 0
+      → (least_size ≤ get_or a (get_or a link 0) 0) × (get_or a link 0 + get_or a (get_or a link 0) 0 ≤ length a)
 
-module _ (a : List ℕ) (pre : List Chunk) (s asked : ℕ) (post : List Chunk) (link chunk size next : ℕ) (st : Placed a pre (live s asked) post link chunk)
-    (size_is : size ≡ get_or a chunk 0) (next_is : next ≡ get_or a link 0) where
-  pub room_beside : next ≡ chunk + size → NextJoins a s post chunk size next
+module _ (a : List ℕ) (pre : List Chunk) (s asked : ℕ) (post : List Chunk) (link chunk : ℕ) (st : Placed a pre (live s asked) post link chunk) where
+  pub room_beside : get_or a link 0 ≡ chunk + get_or a chunk 0 → NextJoins a s post chunk (get_or a chunk 0) (get_or a link 0)
   room_beside b =
       let r = reads a pre (live s asked) post link chunk st in
-      let own : size ≡ s = size_is ∙ r.size_is in
-      rw (b, own) (next_joins a pre s asked link chunk post r (omega (arith, r.names)))
+      rw (b, r.size_is) (next_joins a pre s asked link chunk post r (omega (arith, r.names)))
 
-  pub room_alone : next ≢ chunk + size → HasRoom s post chunk (record { words = size; next = next })
+  pub room_alone : get_or a link 0 ≢ chunk + get_or a chunk 0
+      → HasRoom s post chunk (record { words = get_or a chunk 0; next = get_or a link 0 })
   room_alone n =
       let r = reads a pre (live s asked) post link chunk st in
-      let own : size ≡ s = size_is ∙ r.size_is in
-      rw (own, next_is, r.names) (next_apart a pre s asked link chunk post (λ e. n (omega (arith, r.names))))
+      rw (r.size_is, r.names) (next_apart a pre s asked link chunk post (λ e. n (omega (arith, r.names))))
 
-pub around : (a : List ℕ) (link chunk size next : ℕ) → LiveAt a link chunk → size ≡ get_or a chunk 0 → next ≡ get_or a link 0
-    → Around a link chunk size next
-around a link chunk size next (pre, s, asked, post, st) e q =
+pub around : (a : List ℕ) (link chunk : ℕ) → LiveAt a link chunk → Around a link chunk
+around a link chunk (pre, s, asked, post, st) =
     let r = reads a pre (live s asked) post link chunk st in
     let n = first_free_within (chunk + s) post in
     record {
@@ -87,7 +85,7 @@ around a link chunk size next (pre, s, asked, post, st) e q =
       inside = omega arith;
       most = r.most;
       next_inside = omega (arith, r.names);
-      next_room = λ b. let x = room_beside a pre s asked post link chunk size next st e q b in (x.0, x.1);
+      next_room = λ b. let x = room_beside a pre s asked post link chunk st b in (x.0, x.1);
     }
 
 -- ---- the stores

@@ -1,4 +1,3 @@
 -- What the functions that change an arena say to their callers. No public contract cites these files.
-pub mod Beside
 pub mod Taken
 pub mod RoomAt

@@ -9,7 +9,6 @@ ghost use Rattle.std.specs.Prelude.{◌≡◌, ◌+◌, ◌≤◌, ◌<◌, leng
 ghost use Rattle.layout.specs.Numbers.{greatest_length, word_values, live_mark};
 ghost use Rattle.layout.specs.Chunks.{header};
 ghost use Rattle.rules.specs.Rules.{copied};
-ghost use Rattle.stores.specs.Beside.{Beside};
 
 // Word `i` becomes `v`. One that is `v` already is not stored to: no call writes a word that its rule leaves as it is.
 pub fn change(a: &mut [u32], i: usize, v: usize)
@@ -23,6 +22,7 @@ pub fn change(a: &mut [u32], i: usize, v: usize)
 }
 
 // Words `i` and `i + 1` become `v` and `w`.
+#[tactic(auto, unfolding(layout::specs::Chunks::header))]
 pub fn put(a: &mut [u32], i: usize, v: usize, w: usize)
     requires { (i + 1 < length a.old) × (v < word_values) × (w < word_values) }
     ensures { a.new ≡ header i v w a.old }
@@ -39,9 +39,9 @@ pub fn put_live(a: &mut [u32], i: usize, words: usize, asked: u32)
     put(a, i, words, layout::live_word(asked) as usize);
 }
 
-// Copies `count` words from word `from` on to the words from `to` on. The two runs of words do not overlap.
+// Copies `count` words from word `from` on to the words from `to` on.
 pub fn copy(a: &mut [u32], from: usize, to: usize, count: usize)
-    requires { Beside (length a.old) from to count }
+    requires { (from + count ≤ length a.old) × (to + count ≤ length a.old) }
     ensures { a.new ≡ copied from to count a.old }
 {
     a.copy_within(from..from + count, to);

@@ -30,6 +30,7 @@ pub fn room_at(a: &[u32], place: Place) -> Room
 }
 
 // Whether the free chunk whose second word is the place's link word ends where the place's chunk starts.
+#[tactic(auto, using(crate::proofs::Releasing::ends_none, crate::proofs::Releasing::ends_where))]
 fn ends_at(a: &[u32], place: Place) -> bool
     requires { (place.link < place.chunk) × (place.chunk < length a.now) }
     ensures { result ≡ ends_at a.now place.link place.chunk }
@@ -46,9 +47,7 @@ pub fn release(a: &mut [u32], place: Place)
     requires { LiveAt a.old place.link place.chunk }
     ensures { FreedAt a.old place.link place.chunk a.new }
 {
-    let room = room_at(a, place);
-    let words = room.words;
-    let next = room.next;
+    let Room { words, next } = room_at(a, place);
     if ends_at(a, place) {
         let left = place.link - 1;
         super::put(a, left, place.chunk - left + words, next);

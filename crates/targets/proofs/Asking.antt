@@ -13,7 +13,8 @@ use Rattle.layout.specs.Chunks.{free}
 use Rattle.layout.specs.Walk.{sound, chunks_of}
 use Rattle.layout.specs.Reasons.{arena_gate, request_gate}
 use Rattle.layout.specs.Reasons.{Gate}
-use Rattle.std.specs.Prelude.{Ok, Err}
+use Rattle.std.specs.Prelude.{Option, Result, Ok, Err}
+use Rattle.layout.specs.declared.Ask.{Ask}
 use Rattle.layout.specs.declared.Reason.{Reason}
 use Rattle.layout.specs.declared.Reason.TheVariants.{NoRoom}
 use Rattle.layout.proofs.Reasons.{number_positive}
@@ -27,13 +28,11 @@ use Rattle.rules.specs.Calls.{granted, alloc_by, rover_after, Roves}
 use Rattle.rules.proofs.Gates.{gate_open, request_open}
 use Rattle.rules.proofs.Fits.{next_fitting}
 use Rattle.rules.proofs.Rovers.{rover_stays}
-use Rattle.answers.specs.Readings.{granted_numbers}
-use Rattle.answers.specs.declared.Granted.{Granted}
+use Rattle.answers.specs.Readings.{Granted, granted_numbers}
 use Rattle.passes.specs.Places.{place_of}
 use Rattle.passes.specs.declared.places.Place.{Place}
 use Rattle.ways.specs.Ways.{allotting, Picked}
-use Rattle.targets.specs.Targets.{asked_by, need_in, asked_past, asked_for, GrantsFrom, start_in, StartSmall}
-use Rattle.targets.specs.declared.Asked.TheVariants.{Need, Refused as NotAsked}
+use Rattle.targets.specs.Targets.{past, ask_of, need_in, asked_for, GrantsFrom, start_in, StartSmall}
 
 -- a spot that was picked in a sound arena starts within it
 start_small : (a : List ℕ) (words : ℕ) → sound a ≡ true → {spot : Spot} → Picks (chunks_of a) words spot → StartSmall (place_of spot)
@@ -44,59 +43,61 @@ start_small a words e (a_gap pre s post gap) =
 
 module _ (a : List ℕ) (n : ℕ) where
   -- under every policy the call is refused for the reason
-  pub ask_refused : (why : Reason) → NotAsked why ≡ asked_for a n → (policy : Policy) → Gives (alloc_by policy a n) (refusal 2 why) a
+  pub ask_refused : (why : Reason) → Err why ≡ asked_for a n → (policy : Policy) → Gives (alloc_by policy a n) (refusal 2 why) a
   unfolding alloc_by asked_for need_in
   ask_refused why e policy = go (arena_gate a) refl (request_gate (length a) n) refl e
     where
       go : (arena : Gate) → arena_gate a ≡ arena → (request : Gate) → request_gate (length a) n ≡ request
-          → NotAsked why ≡ asked_past arena (asked_by request (need n))
+          → Err why ≡ past arena (past request (Ok (ask_of n)))
           → Gives (alloc_by policy a n) (refusal 2 why) a
       go (Err r) q request h p = let is : why ≡ r = cc in rw (q, is) (record { answers = refl; leaves = refl })
       go (Ok _) q (Err r) h p = let is : why ≡ r = cc in rw (q, h, is) (record { answers = refl; leaves = refl })
-      go (Ok _) q (Ok _) h p = absurd (let z : ◌≡◌ {A = ℕ} 0 1 = cc in omega arith)
+      go (Ok _) q (Ok _) h p = cc
 
-  -- a need: whoever grants what a policy picks for it does what the call under that policy comes to
-  pub record Wanting (words : ℕ) : Type 0 where
+  -- an ask: whoever grants what a policy picks for it does what the call under that policy comes to
+  pub record Wanting (ask : Ask) : Type 0 where
     pub is_sound : sound a ≡ true
-    pub needed : Needed words n
-    pub words_are : words ≡ need n
+    pub needed : Needed ask.need ask.asked
+    pub need_is : ask.need ≡ need n
     pub gives : (policy : Policy) {answer : Answer} {after : List ℕ}
-        → Gives (settle 2 a (granted NoRoom (allotting words n (policy words (chunks_of a)) a))) answer after → Gives (alloc_by policy a n) answer after
+        → Gives (settle 2 a (granted NoRoom (allotting ask.need ask.asked (policy ask.need (chunks_of a)) a))) answer after
+        → Gives (alloc_by policy a n) answer after
 
-  pub ask_wanted : (words : ℕ) → Need words ≡ asked_for a n → Wanting words
+  pub ask_wanted : (ask : Ask) → Ok ask ≡ asked_for a n → Wanting ask
   unfolding alloc_by asked_for need_in
-  ask_wanted words e = go (arena_gate a) refl (request_gate (length a) n) refl e
+  ask_wanted ask e = go (arena_gate a) refl (request_gate (length a) n) refl e
     where
       go : (arena : Gate) → arena_gate a ≡ arena → (request : Gate) → request_gate (length a) n ≡ request
-          → Need words ≡ asked_past arena (asked_by request (need n))
-          → Wanting words
+          → Ok ask ≡ past arena (past request (Ok (ask_of n)))
+          → Wanting ask
       go (Err r) q request h p = absurd (let z : ◌≡◌ {A = ℕ} 0 1 = cc in omega arith)
       go (Ok _) q (Err r) h p = absurd (let z : ◌≡◌ {A = ℕ} 0 1 = cc in omega arith)
       go (Ok _) q (Ok _) h p =
-          let same : words ≡ need n = cc in
+          let same : ask ≡ ask_of n = cc in
           let e = gate_open a (sym q) in
-          record {
+          rw same
+          (record {
             is_sound = e;
-            words_are = same;
-            needed = rw same (request_open (length a) n (sound_lawful a e) (sym h));
-            gives = λ policy g. rw (q, h) (rw same at g);
-          }
+            need_is = refl;
+            needed = request_open (length a) n (sound_lawful a e) (sym h);
+            gives = λ policy g. rw (q, h) g;
+          })
 
 -- what a search by a fitting policy answered is picked, and to grant it is the call under that policy
-module _ (policy : Policy) (fitting : Fitting policy) {a : List ℕ} {n words : ℕ} (w : Wanting a n words) {place : Place}
-    (searched : place ≡ place_of (policy words (chunks_of a))) where
-  pub picked_by : Picked a words n place
-  picked_by = (w.is_sound, w.needed, (policy words (chunks_of a), (fitting words (chunks_of a), searched)))
+module _ (policy : Policy) (fitting : Fitting policy) {a : List ℕ} {n : ℕ} {ask : Ask} (w : Wanting a n ask) {place : Option Place}
+    (searched : place ≡ place_of (policy ask.need (chunks_of a))) where
+  pub picked_by : Picked a ask.need ask.asked place
+  picked_by = (w.is_sound, w.needed, (policy ask.need (chunks_of a), (fitting ask.need (chunks_of a), searched)))
 
-  pub granted_by : (answer : Granted) (after : List ℕ) → GrantsFrom a words n place answer after
+  pub granted_by : (answer : Granted) (after : List ℕ) → GrantsFrom a ask.need ask.asked place answer after
       → Gives (alloc_by policy a n) (granted_numbers answer) after
-  granted_by answer after g = w.gives policy (g (policy words (chunks_of a)) (fitting words (chunks_of a), searched))
+  granted_by answer after g = w.gives policy (g (policy ask.need (chunks_of a)) (fitting ask.need (chunks_of a), searched))
 
 -- ---- next fit
 
 module _ (a : List ℕ) (rover n : ℕ) where
   -- a call that is refused by a gate leaves the rover
-  pub refused_roves : (why : Reason) → NotAsked why ≡ asked_for a n → Roves a rover n (refusal 2 why) a rover
+  pub refused_roves : (why : Reason) → Err why ≡ asked_for a n → Roves a rover n (refusal 2 why) a rover
   refused_roves why e =
       let g = ask_refused a n why e (next_fit_policy rover) in
       record { gives = g; moves = sym (rover_stays a rover n (refused g)) }
@@ -104,26 +105,26 @@ module _ (a : List ℕ) (rover n : ℕ) where
       refused : Gives (alloc_by (next_fit_policy rover) a n) (refusal 2 why) a → (alloc_by (next_fit_policy rover) a n).answer.code ≢ 0
       refused g z = omega (arith, number_positive why, rw (← g.answers) at z)
 
-  rover_found : (words : ℕ) → Wanting a n words → rover_after a rover n ≡ start_in rover (place_of (next_fit_policy rover words (chunks_of a)))
+  rover_found : (ask : Ask) → Wanting a n ask → rover_after a rover n ≡ start_in rover (place_of (next_fit_policy rover ask.need (chunks_of a)))
   unfolding rover_after place_of
-  rover_found words w =
+  rover_found ask w =
       let told = (w.gives (next_fit_policy rover) (record { answers = refl; leaves = refl })).answers in
-      rw (← told, ← w.words_are) (go (next_fit_policy rover words (chunks_of a)))
+      rw (← told, ← w.need_is) (go (next_fit_policy rover ask.need (chunks_of a)))
     where
-      go : (spot : Spot) → cond (eqb (settle 2 a (granted NoRoom (allotting words n spot a))).answer.code 0) (start_of spot) rover
+      go : (spot : Spot) → cond (eqb (settle 2 a (granted NoRoom (allotting ask.need ask.asked spot a))).answer.code 0) (start_of spot) rover
           ≡ start_in rover (place_of spot)
       go nowhere = refl
       go (at pre k post) = refl
 
   -- otherwise it is where the chunk starts that was found, if one was
-  pub found_roves : {words : ℕ} (w : Wanting a n words) {place : Place} → place ≡ place_of (next_fit_policy rover words (chunks_of a))
-      → (answer : Granted) (after : List ℕ) → GrantsFrom a words n place answer after
-      → Roves a rover n (granted_numbers answer) after (start_in rover place)
-  found_roves {words} w searched answer after g =
-      record {
-        gives = granted_by (next_fit_policy rover) (next_fitting rover) w searched answer after g;
-        moves = ap (start_in rover) searched ∙ sym (rover_found words w);
-      }
+  module _ {ask : Ask} (w : Wanting a n ask) {place : Option Place} (searched : place ≡ place_of (next_fit_policy rover ask.need (chunks_of a))) where
+    pub found_roves : (answer : Granted) (after : List ℕ) → GrantsFrom a ask.need ask.asked place answer after
+        → Roves a rover n (granted_numbers answer) after (start_in rover place)
+    found_roves answer after g =
+        record {
+          gives = granted_by (next_fit_policy rover) (next_fitting rover) w searched answer after g;
+          moves = ap (start_in rover) searched ∙ sym (rover_found ask w);
+        }
 
-  pub found_small : {words : ℕ} (w : Wanting a n words) {place : Place} → place ≡ place_of (next_fit_policy rover words (chunks_of a)) → StartSmall place
-  found_small {words} w searched = rw searched (start_small a words w.is_sound (next_fitting rover words (chunks_of a)))
+    pub found_small : StartSmall place
+    found_small = rw searched (start_small a ask.need w.is_sound (next_fitting rover ask.need (chunks_of a)))

@@ -1,5 +1,5 @@
 -- What a call is asked for, and what it answers, as the functions inside say it. No public contract cites this file.
-use Rattle.std.specs.Prelude.{ℕ, ◌≤◌, List, length, Option, None, Some, Result, Ok, Err}
+use Rattle.std.specs.Prelude.{ℕ, ◌≤◌, List, length, Option, None, Some, Result, Ok, Err, ok_or}
 use Rattle.layout.specs.Numbers.{need, greatest_length}
 use Rattle.layout.specs.Walk.{chunks_of}
 use Rattle.layout.specs.Reasons.{Gate, arena_gate, request_gate}
@@ -10,7 +10,6 @@ use Rattle.rules.specs.Answers.{settle, Gives}
 use Rattle.rules.specs.Spots.{Spot, held}
 use Rattle.rules.specs.Calls.{granted}
 use Rattle.answers.specs.Readings.{Granted, granted_numbers}
-use Rattle.answers.specs.declared.Grant.{Grant}
 use Rattle.passes.specs.Places.{place_of}
 use Rattle.passes.specs.declared.places.Place.{Place}
 use Rattle.ways.specs.Ways.{allotting, PickedAt}
@@ -33,14 +32,9 @@ need_in words n = past (request_gate words n) (Ok (ask_of n))
 unfoldable pub asked_for : List ℕ → ℕ → Result Ask Reason
 asked_for a n = past (arena_gate a) (need_in (length a) n)
 
--- what the search for a block answers
-abbrev pub block_found : Option Place → Result Place Reason
-block_found None = Err NotABlock
-block_found (Some place) = Ok place
-
 -- where block `b` stands, or why a call on it is refused: the arena is looked at first, then the block
 unfoldable pub located : List ℕ → ℕ → Result Place Reason
-located a b = past (arena_gate a) (block_found (place_of (held b (chunks_of a))))
+located a b = past (arena_gate a) (ok_or (place_of (held b (chunks_of a))) NotABlock)
 
 -- by where the block stands and by what is asked
 abbrev pub target_by : Result Place Reason → Result Ask Reason → Result Target Reason
@@ -51,11 +45,6 @@ target_by (Ok place) (Ok ask) = Ok (record { place = place; ask = ask })
 -- the block and what is asked of it, or why it is refused: the block is looked at first, then the request
 unfoldable pub target_of : List ℕ → ℕ → ℕ → Result Target Reason
 target_of a b n = target_by (located a b) (need_in (length a) n)
-
--- a way as the answer of a call that grants; `why` is what the call says where it is shut
-abbrev pub granted_of : Reason → Option Grant → Granted
-granted_of why (Some grant) = Ok grant
-granted_of why None = Err why
 
 -- what was picked for a need is granted as an alloc answers it
 abbrev pub GrantsFrom : List ℕ → ℕ → ℕ → Option Place → Granted → List ℕ → Type 0

@@ -13,6 +13,7 @@ use passes::places;
 use passes::places::Place;
 
 // A request for `n` words in an arena of `words` words.
+#[tactic(auto, using(rules::proofs::Gates::request_small), unfolding(crate::specs::Targets::need_in))]
 fn need_in(words: usize, n: u32) -> Result<Ask, Reason>
     requires { lawful words ≡ true }
     ensures { result ≡ need_in words n }
@@ -25,6 +26,7 @@ fn need_in(words: usize, n: u32) -> Result<Ask, Reason>
 }
 
 // A request for a new block of `n` words: the arena is checked, and then the request.
+#[tactic(auto, using(layout::proofs::Round::sound_lawful, rules::proofs::Gates::gate_open), unfolding(crate::specs::Targets::asked_for))]
 pub fn ask(a: &[u32], n: u32) -> Result<Ask, Reason>
     ensures { result ≡ asked_for a.now n }
 {
@@ -33,6 +35,7 @@ pub fn ask(a: &[u32], n: u32) -> Result<Ask, Reason>
 }
 
 // Where block `b` stands: the arena is checked, and the block is searched for.
+#[tactic(auto, using(rules::proofs::Gates::gate_open), unfolding(crate::specs::Targets::located))]
 pub fn locate(a: &[u32], b: u32) -> Result<Place, Reason>
     ensures { result ≡ located a.now b }
 {
@@ -48,6 +51,7 @@ pub struct Target {
 }
 
 // Block `b` and a request for `n` words: the block is looked for first.
+#[tactic(auto, using(crate::proofs::Locating::located_lawful), unfolding(crate::specs::Targets::target_of))]
 pub fn target_of(a: &[u32], b: u32, n: u32) -> Result<Target, Reason>
     ensures { result ≡ target_of a.now b n }
 {
@@ -57,6 +61,7 @@ pub fn target_of(a: &[u32], b: u32, n: u32) -> Result<Target, Reason>
 }
 
 // A new block for what is asked, from the free chunk that a search found, as an alloc answers it.
+#[tactic(auto, using(crate::proofs::Granting::way_gives))]
 pub fn grant(a: &mut [u32], place: Option<Place>, ask: Ask) -> Granted
     requires { Picked a.old ask.need ask.asked place }
     ensures { GrantsFrom a.old ask.need ask.asked place result a.new }
@@ -69,8 +74,5 @@ pub fn start_of(place: Option<Place>, rover: u32) -> u32
     requires { StartSmall place }
     ensures { result ≡ start_in rover place }
 {
-    match place {
-        Some(found) => found.chunk as u32,
-        None => rover,
-    }
+    place.map_or(rover, |found| found.chunk as u32)
 }

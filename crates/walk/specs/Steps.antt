@@ -10,10 +10,10 @@ use Rattle.layout.specs.declared.Reason.TheVariants.{Length, Damaged}
 unfoldable pub size_at : List ℕ → ℕ → Option ℕ
 size_at a c = cond (header_fits a c) (Some (get_or a c 0)) None
 
--- how many chunks have been met at the end of a walk that does not break, `met` of them before
-abbrev pub met_by : ℕ → Walked → Option ℕ
-met_by met broken = None
-met_by met (whole ks) = Some (met + length ks)
+-- how many chunks have been met at the end of a walk, `met` of them before; 0 where it breaks
+abbrev pub met_by : ℕ → Walked → ℕ
+met_by met broken = 0
+met_by met (whole ks) = met + length ks
 
 -- a walk that stands at word `c`, behind a live chunk, and has met `met` chunks comes to word `r`, having met `more` by
 -- then: it comes to the same end

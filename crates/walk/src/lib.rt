@@ -27,10 +27,8 @@ fn size_at(a: &[u32], c: usize) -> Option<usize>
     ensures { result ≡ size_at a.now c }
 {
     let s = a[c] as usize;
-    if s % 2 == 0 && LEAST_SIZE <= s && s <= a.len() - c {
-        if second_fits(s, a[c + 1]) {
-            return Some(s);
-        }
+    if s % 2 == 0 && LEAST_SIZE <= s && s <= a.len() - c && second_fits(s, a[c + 1]) {
+        return Some(s);
     }
     None
 }
@@ -44,6 +42,7 @@ struct Passed {
 
 // Goes past live chunks from word `c` on, before which `met` chunks were met, and ends where none stands: at a free
 // chunk, at the end, or at words that are no chunk.
+#[tactic(auto, using(crate::proofs::Meeting::size_bounds))]
 fn past_live(a: &[u32], c: usize, met: usize) -> Passed
     requires { (c ≤ length a.now) × (met ≤ c) }
     ensures { PastLive a.now c met result }
@@ -52,67 +51,68 @@ fn past_live(a: &[u32], c: usize, met: usize) -> Passed
     let mut chunks = met;
     while at < a.len() {
         let Some(s) = size_at(a, at) else {
-            return Passed { at, met: chunks };
+            break;
         };
-        if is_live(a[at + 1]) {
-            at += s;
-            chunks += 1;
-        } else {
-            return Passed { at, met: chunks };
+        if !is_live(a[at + 1]) {
+            break;
         }
+        at += s;
+        chunks += 1;
     }
     Passed { at, met: chunks }
 }
 
-// What the check walk answers at the end of the arena: the chunks that it has met, if no link names one more.
-fn met_at_end(want: usize, met: usize) -> Option<usize>
-    ensures { result ≡ cond (eqb want 0) (Some met) None }
+// What the check walk answers at the end of the arena: the chunks that it has met, or 0 where a link still names one.
+fn met_at_end(want: usize, met: usize) -> usize
+    ensures { result ≡ cond (eqb want 0) met 0 }
 {
-    if want == 0 {
-        return Some(met);
-    }
-    None
+    if want == 0 { met } else { 0 }
 }
 
 // The check walk from word `c`, where a live chunk or the control words end: how many chunks it has met at the end,
-// `met` of them before `c`, if it does not break. `want` is where the last link says that the next free chunk starts
-// (0: there is none).
+// `met` of them before `c`, or 0 where it breaks. `want` is where the last link says that the next free chunk starts
+// (0: there is none). An Option comes back in two registers, and the walkers' calls could not be jumps.
 #[cycle(after_free_after_live)]
-fn after_live(a: &[u32], c: usize, want: usize, met: usize) -> Option<usize>
+#[tactic(auto, using(crate::proofs::Steps::past_laws))]
+fn after_live(a: &[u32], c: usize, want: usize, met: usize) -> usize
     requires { (c ≤ length a.now) × (met ≤ c) }
     ensures { result ≡ met_by met (walk_from a.now c want false) }
 {
-    let passed = past_live(a, c, met);
-    let at = passed.at;
-    let chunks = passed.met;
+    let Passed { at, met: chunks } = past_live(a, c, met);
     if at == a.len() {
         return met_at_end(want, chunks);
     }
     if want != at {
-        return None;
+        return 0;
     }
-    let s = size_at(a, at)?;
+    let Some(s) = size_at(a, at) else {
+        return 0;
+    };
     after_free(a, at + s, a[at + 1] as usize, chunks + 1)
 }
 
 // The check walk from word `c`, where a free chunk ends: only a live chunk or the end may follow.
 #[cycle(after_free_after_live)]
-fn after_free(a: &[u32], c: usize, want: usize, met: usize) -> Option<usize>
+#[tactic(auto, using(crate::proofs::Meeting::place_laws))]
+fn after_free(a: &[u32], c: usize, want: usize, met: usize) -> usize
     requires { (c ≤ length a.now) × (met ≤ c) }
     ensures { result ≡ met_by met (walk_from a.now c want true) }
 {
     if c == a.len() {
         return met_at_end(want, met);
     }
-    let s = size_at(a, c)?;
+    let Some(s) = size_at(a, c) else {
+        return 0;
+    };
     if is_live(a[c + 1]) {
         after_live(a, c + s, want, met + 1)
     } else {
-        None
+        0
     }
 }
 
 // How many chunks a sound arena has; or why the words are none: Length, then Damaged.
+#[tactic(auto, using(crate::proofs::Counted::count_laws))]
 pub fn count_chunks(a: &[u32]) -> Result<usize, Reason>
     ensures { result ≡ chunk_count a.now }
 {
@@ -122,10 +122,14 @@ pub fn count_chunks(a: &[u32]) -> Result<usize, Reason>
     if a[0] as usize != a.len() {
         return Err(Reason::Damaged);
     }
-    after_live(a, FIRST_CHUNK, a[LIST_WORD] as usize, 0).ok_or(Reason::Damaged)
+    match after_live(a, FIRST_CHUNK, a[LIST_WORD] as usize, 0) {
+        0 => Err(Reason::Damaged),
+        chunks => Ok(chunks),
+    }
 }
 
 // The reasons for which words that have to be a sound arena are refused: Length, then Damaged.
+#[tactic(auto, using(crate::proofs::Counted::chunks_open, crate::proofs::Counted::no_chunks_shut))]
 pub fn check_arena(a: &[u32]) -> Result<(), Reason>
     ensures { result ≡ arena_gate a.now }
 {

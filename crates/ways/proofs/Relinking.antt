@@ -1,7 +1,6 @@
 -- A block that moves, in the code's terms: the word that names the next free chunk once the gap was cut, the copy, and
 -- the free.
 use mathlib.Core.Path.{◌≡◌, refl, sym, ap, ◌∙◌}
-use mathlib.Core.Logic.{inl, inr, ⊎_elim}
 use mathlib.Core.Bool.{Bool, true, false, cond}
 use mathlib.Core.List.{List, [], ◌∷◌, ◌++◌}
 use Prim.Native.Nat.{ℕ, ◌+◌, ◌-◌, ◌≤◌, ◌<◌, min}
@@ -9,25 +8,26 @@ use native.Mathlib.Omega.{arith}
 use lib.Dec.{eqb}
 use lib.ListN.{length}
 use borrow.Author.Tests.{eq-eqb, ne_eqb}
+use Rattle.std.specs.Prelude.{Some}
 use Rattle.layout.specs.Numbers.{first_chunk, list_word, header_words, least_size}
-use Rattle.layout.specs.Chunks.{Chunk, free, live, total, written}
+use Rattle.layout.specs.Chunks.{Chunk, free, live, total}
 use Rattle.layout.specs.Walk.{chunks_of}
 use Rattle.layout.specs.Links.{link_at}
 use Rattle.layout.proofs.Holds.{total_append}
 use Rattle.layout.proofs.Written.{length_written}
 use Rattle.rules.specs.Spots.{at}
 use Rattle.rules.specs.Fits.{first_fit_policy}
-use Rattle.rules.specs.Rules.{taken, cut, copied, relocated, released}
+use Rattle.rules.specs.Rules.{taken, cut, copied, relocated}
 use Rattle.rules.specs.Rooms.{Needed}
 use Rattle.rules.proofs.Remainder.{Remainder, split, whole, remainder, cut_numbers}
-use Rattle.rules.proofs.OldBlock.{Order, gap_above, gap_below, order, old_before, old_after, old_stands, old_apart, moved_sound, moved_chunks}
+use Rattle.rules.proofs.OldBlock.{Order, gap_above, gap_below, order, old_before, old_after, old_stands, moved_sound, moved_chunks}
 use Rattle.rules.proofs.OldBlock.{move-grants}
 use Rattle.passes.specs.Places.{Placed}
 use Rattle.passes.proofs.Standing.{placed_at, reads}
-use Rattle.stores.specs.Beside.{Beside}
+use Rattle.stores.specs.RoomAt.{FreedAt}
 use Rattle.stores.specs.Taken.{Took}
 use Rattle.stores.specs.declared.taking.Piece.{Piece}
-use Rattle.ways.specs.Ways.{Follows, way_by, grants_of}
+use Rattle.ways.specs.Ways.{Follows, way_by, grant_of}
 use Rattle.ways.specs.Relinks.{link_after}
 
 -- ---- the word that names the first free chunk after some
@@ -125,19 +125,14 @@ module _ (a : List ℕ) (pre : List Chunk) (s asked : ℕ) (post : List Chunk) (
     number : piece.chunk + header_words ≡ first_chunk + total before + (g - taken need g) + header_words
     number = ap (λ (c : ℕ). c + header_words) t.starts
 
-    pub took_beside : Beside (length granted) (chunk + header_words) (piece.chunk + header_words) count
-    took_beside =
+    pub took_inside : (chunk + header_words + count ≤ length granted) × (piece.chunk + header_words + count ≤ length granted)
+    took_inside =
         let c = cut_numbers need g fits in
         let r = reads a pre (live s asked) post link chunk st in
         let q = reads a before (free g) after gap_link gap sg in
         let e : length granted ≡ length a = ap length t.leaves ∙ length_written _ a in
         let p = t.starts in
-        record {
-          from_fits = omega arith;
-          to_fits = omega arith;
-          small = omega arith;
-          clear = ⊎_elim (λ h. inl (omega arith)) (λ h. inr (omega arith)) (old_apart need w pre s asked post before g after first);
-        }
+        omega arith
 
     -- the old block stands where it stood
     pub took_stands : (words : List ℕ) → words ≡ copied (chunk + header_words) (piece.chunk + header_words) count granted
@@ -163,10 +158,11 @@ module _ (a : List ℕ) (pre : List Chunk) (s asked : ℕ) (post : List Chunk) (
     -- and is freed
     pub took_moved : first_fit_policy need (chunks_of a) ≡ at before (free g) after
         → (words : List ℕ) → words ≡ copied (chunk + header_words) (piece.chunk + header_words) count granted
-        → (freed : List ℕ) → freed ≡ written (released (at front (live s asked) back)) words
-        → Follows (way_by relocated (chunk + header_words) need w a pre (live s asked) post) a (grants_of piece) freed
-    took_moved spot words e freed f =
+        → (named : ℕ) → named ≡ link_after link gap_link gap piece.chunk
+        → (freed : List ℕ) → FreedAt words named chunk freed
+        → Follows (way_by relocated (chunk + header_words) need w a pre (live s asked) post) a (Some (grant_of piece)) freed
+    took_moved spot words e named q freed f =
         let way =
         move-grants a need w pre s asked post before g after (chunk + header_words) (piece.chunk + header_words) count st.is_sound n st.stands
         (sg.stands.same, fits) room number in
-        rw (spot, ← shorter, way, f, e, t.leaves) (record { answers = rw t.has; leaves = refl })
+        rw (spot, ← shorter, way, f front s asked back (took_stands words e named q), e, t.leaves) (record { answers = rw t.has; leaves = refl })

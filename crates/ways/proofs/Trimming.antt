@@ -2,10 +2,11 @@
 -- ways 1 and 2.
 use mathlib.Core.Path.{◌≡◌, refl, sym}
 use mathlib.Core.List.{List, ◌∷◌}
-use Prim.Native.Nat.{ℕ, ◌+◌, ◌-◌, ◌≤◌, ◌<◌}
+use Prim.Native.Nat.{ℕ, ◌+◌, ◌≤◌, ◌<◌}
 use native.Mathlib.Omega.{arith}
 use lib.ListN.{length}
 use borrow.Author.Tests.{le-leb, lt-leb}
+use Rattle.std.specs.Prelude.{None, Some}
 use Rattle.layout.specs.Numbers.{header_words}
 use Rattle.layout.specs.Chunks.{Chunk, live}
 use Rattle.layout.proofs.Holds.{Sizes}
@@ -17,9 +18,8 @@ use Rattle.passes.proofs.Standing.{reads}
 use Rattle.stores.specs.RoomAt.{HasRoom, room_written}
 use Rattle.stores.specs.declared.release.Room.{Room}
 use Rattle.stores.proofs.RoomReading.{bounds, become}
-use Rattle.ways.specs.Ways.{Follows, way_by}
+use Rattle.ways.specs.Ways.{Follows, way_by, grant_of}
 use Rattle.ways.specs.Trims.{RoomFor}
-use Rattle.ways.specs.declared.Way.TheVariants.{Grants, Shut}
 
 module _ (a : List ℕ) (pre : List Chunk) (s asked : ℕ) (post : List Chunk) (link chunk : ℕ) (st : Placed a pre (live s asked) post link chunk)
     (room : Room) (has : HasRoom s post chunk room) (need w : ℕ) where
@@ -45,7 +45,8 @@ module _ (a : List ℕ) (pre : List Chunk) (s asked : ℕ) (post : List Chunk) (
           small = (r.most, omega (arith, b.next_fits, r.most), omega (arith, n.holds, n.most));
         }
 
-    pub stays : Follows (way_by resized (chunk + header_words) need w a pre (live s asked) post) a (Grants (chunk + header_words) (keep - header_words))
+    pub stays : Follows (way_by resized (chunk + header_words) need w a pre (live s asked) post) a
+        (Some (grant_of (record { chunk = chunk; words = keep })))
         (room_written link chunk (trim keep w room.words) room.next a)
     stays =
         let z = kept_sizes need w s asked keep post n sized kept in
@@ -57,7 +58,7 @@ module _ (a : List ℕ) (pre : List Chunk) (s asked : ℕ) (post : List Chunk) (
         })
 
   -- its room lacks the need
-  pub too_short : room.words < need → Follows (way_by resized (chunk + header_words) need w a pre (live s asked) post) a Shut a
+  pub too_short : room.words < need → Follows (way_by resized (chunk + header_words) need w a pre (live s asked) post) a None a
   too_short l =
       rw (in_room (chunk + header_words) need w pre s asked a post sized.2, ← has.words_are, lt-leb need room.words l)
       (record { answers = refl; leaves = refl })

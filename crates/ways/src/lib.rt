@@ -42,9 +42,8 @@ pub fn regrant_at(a: &mut [u32], place: Place, ask: Ask) -> Option<Grant>
     requires { LiveAt a.old place.link place.chunk × Needed ask.need ask.asked }
     ensures { FollowsAt regranted a.old place.link place.chunk ask.need ask.asked result a.new }
 {
-    let stayed = staying::resize_at(a, place, ask);
-    if stayed.is_some() {
-        return stayed;
+    match staying::resize_at(a, place, ask) {
+        None => moving::relocate_at(a, place, ask),
+        stayed => stayed,
     }
-    moving::relocate_at(a, place, ask)
 }

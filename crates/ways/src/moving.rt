@@ -14,17 +14,16 @@ use passes::places::Place;
 // The word that names the first free chunk after a block, once the chunk `new` was made of the free chunk at `gap`:
 // where that was taken whole, its second word is a link no more, and the word that named it now names the next free
 // chunk.
+#[tactic(auto, unfolding(crate::specs::Relinks::link_after))]
 fn link_after(link: usize, gap: Place, new: usize) -> usize
     requires { gap.chunk ≤ greatest_length }
     ensures { result ≡ link_after link gap.link gap.chunk new }
 {
-    if gap.chunk != new {
-        return link;
+    if gap.chunk == new && gap.chunk + 1 == link {
+        gap.link
+    } else {
+        link
     }
-    if gap.chunk + 1 != link {
-        return link;
-    }
-    gap.link
 }
 
 // Way 3: the block moves, and the old one is freed once as many words are copied as the shorter of the two has.

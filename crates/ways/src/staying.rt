@@ -30,12 +30,12 @@ fn kept_words(need: usize, size: usize, words: usize) -> usize
 
 // The chunk at a place keeps the first `keep` words of its room, where `asked` words are asked for; those over, if there
 // are any, become a free chunk.
+#[tactic(auto, unfolding(stores::specs::RoomAt::room_written, layout::specs::Chunks::write))]
 fn trim(a: &mut [u32], place: Place, keep: usize, asked: u32, room: Room)
     requires { RoomFor (length a.old) place.link place.chunk keep asked room }
     ensures { a.new ≡ room_written place.link place.chunk (trim keep asked room.words) room.next a.old }
 {
-    let words = room.words;
-    let next = room.next;
+    let Room { words, next } = room;
     if words <= keep {
         stores::change(a, place.link, next);
         stores::put_live(a, place.chunk, keep, asked);

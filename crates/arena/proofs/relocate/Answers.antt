@@ -1,17 +1,19 @@
 -- `relocate` meets its contract: its target refuses it, or `relocate_at` follows its rule at the block.
+use Rattle.answers.specs.Readings.{grant_fields}
+use Rattle.targets.proofs.Granting.{handed_on}
 use Rattle.targets.proofs.Locating.{target_refused, Aimed, target_aimed}
 use Rattle.arena.proofs.relocate.Goals as goal
-use Rattle.arena.proofs.relocate.Goals.{In-Block}
+use Rattle.arena.proofs.relocate.Goals.{In_ok-target}
 
--- the block and the need that it is about
-aimed : (c : In-Block) → Aimed c.args.a.now c.args.b c.args.n c.in-Block.link c.in-Block.chunk c.in-Block.need
-aimed c = target_aimed _ _ _ _ _ _ c.in-Block.ensures
+-- the block and what is asked
+aimed : (c : In_ok-target) → Aimed c.args.a.now c.args.b c.args.n c.in_ok-target.target
+aimed c = target_aimed _ _ _ _ c.in_ok-target.ensures
 
-pub relocate_at-way-requires : goal.relocate_at-way-requires
-relocate_at-way-requires c = let t = aimed (goal.at.relocate_at-way-requires c).In-Block in (t.stands, t.needed)
+pub returns-in_err-target : goal.returns-in_err-target
+returns-in_err-target c = handed_on grant_fields 2 _ _ c.from_residual.ensures.1 (target_refused _ _ _ _ c.in_err-target.ensures _ _)
 
-pub returns-in-Block : goal.returns-in-Block
-returns-in-Block c = rw c.answer.ensures ((aimed (goal.at.returns-in-Block c).In-Block).gives _ _ _ _ c.relocate_at-way.ensures)
+pub relocate_at-requires : goal.relocate_at-requires
+relocate_at-requires c = (aimed (goal.at.relocate_at-requires c).In_ok-target).asked
 
-pub returns-in-Refused : goal.returns-in-Refused
-returns-in-Refused c = target_refused _ _ _ _ c.in-Refused.ensures _ _
+pub returns : goal.returns
+returns c = rw c.ok_or.ensures.value ((aimed (goal.at.returns c).In_ok-target).gives _ _ _ _ c.relocate_at.ensures)

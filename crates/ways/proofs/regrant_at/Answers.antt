@@ -2,5 +2,5 @@
 use Rattle.ways.proofs.Following.{regrants_elsewhere}
 use Rattle.ways.proofs.regrant_at.Goals as goal
 
-pub returns-in-Shut : goal.returns-in-Shut
-returns-in-Shut c = regrants_elsewhere c.args.need c.args.asked c.requires.0 c.in-Shut.ensures c.relocate_at.ensures
+pub returns-in-None : goal.returns-in-None
+returns-in-None c = regrants_elsewhere c.args.ask.need c.args.ask.asked c.requires.0 c.in-None.ensures c.relocate_at.ensures

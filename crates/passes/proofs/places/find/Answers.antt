@@ -1,47 +1,51 @@
 -- `places::find` meets its contract. The loop's invariant: the chunks from `chunk` on are left, and `link` is the
 -- second word of the last free one before them, or the list's first word.
 -- The measure is what is left of the words.
-use Prim.Native.Nat.{◌+◌, ◌≤◌, ◌<◌}
+use Prim.Native.Nat.{◌+◌, ◌<◌}
 use mathlib.Core.Path.{◌≡◌, sym, ◌∙◌}
 use native.Mathlib.Omega.{arith}
-use lib.ListN.{length, get_or}
-use Rattle.layout.specs.Numbers.{least_size, header_words}
+use lib.ListN.{length}
+use Rattle.layout.specs.Numbers.{header_words}
 use Rattle.passes.proofs.Passing.{size_here, live_here, free_here}
 use Rattle.passes.proofs.Searching.{search_begins, search_in_vain, search_stops, search_past_live, search_past_free, search_above}
 use Rattle.passes.proofs.places.find.Goals as goal
-use Rattle.passes.proofs.places.find.Goals.{then-not-is_live, else-not-is_live}
+use Rattle.passes.proofs.places.find.Goals.{Else-chunk-start, In-loop-chunk, then-not-is_live, else-not-is_live}
+
+-- the chunk that is passed lies in the arena
+passed : (c : In-loop-chunk) → c.loop-chunk.chunk < length c.args.a.now
+passed c = omega (arith, c.loop-chunk-test.true, c.if-a-b.false)
+
+-- and so does the one that is reached
+reached : (c : Else-chunk-start) → c.loop-chunk.chunk < length c.args.a.now
+reached c = omega (arith, c.if-chunk-start.false, c.if-a-b.false)
 
 pub returns-then-a-b : goal.returns-then-a-b
 returns-then-a-b c = search_in_vain _ _ c.requires c.if-a-b.true
 
 pub returns-then-b-lt-HEADER_WORDS : goal.returns-then-b-lt-HEADER_WORDS
-returns-then-b-lt-HEADER_WORDS c =
-    let d = c in
-    search_above _ _ _ _ _ (search_begins _ d.args.b d.requires) (omega (arith, c.if-b-lt-HEADER_WORDS.true))
+returns-then-b-lt-HEADER_WORDS c = search_above _ _ _ _ _ (search_begins _ c.args.b c.requires) (omega (arith, c.if-b-lt-HEADER_WORDS.true))
 
 pub loop-chunk-init : goal.loop-chunk-init
 loop-chunk-init c = (_, search_begins _ c.args.b c.requires)
 
 pub loop-chunk-smaller : goal.loop-chunk-smaller
 loop-chunk-smaller c =
-    let inside : c.loop-chunk.chunk < length c.args.a.now = omega (arith, c.loop-chunk-test.true, c.if-a-b.false) in
-    let sized : let a = c.args.a.now in
-    let chunk = c.loop-chunk.chunk in
-    (least_size ≤ get_or a chunk 0) × (chunk + get_or a chunk 0 ≤ length a) = let (ks, g) = c.loop-chunk.invariant in size_here _ _ ks g.left inside in
-    omega (arith, sized, c.wide-chunk.ensures)
+    let (ks, g) = c.loop-chunk.invariant in
+    let inside = passed (goal.at.loop-chunk-smaller c).In-loop-chunk in
+    omega (arith, inside, size_here _ _ ks g.left inside)
 
 pub loop-chunk-preserved : goal.loop-chunk-preserved
 loop-chunk-preserved c =
-    let inside : c.loop-chunk.chunk < length c.args.a.now = omega (arith, c.loop-chunk-test.true, c.if-a-b.false) in
     let (ks, g) = c.loop-chunk.invariant in
+    let inside = passed (goal.at.loop-chunk-preserved c).In-loop-chunk in
     elim c.if-not-is_live.branch [
       | then-not-is_live w ↦
           let (ls, e) = free_here _ _ ks g.left inside (sym c.is_live.ensures ∙ w.if-not-is_live.true) in
-          (ls, rw (w.link-is, c.wide-chunk.ensures) (search_past_free _ _ _ _ _ ls (rw e at g)))
+          (ls, rw w.link-is (search_past_free _ _ _ _ _ ls (rw e at g)))
       | else-not-is_live w ↦
           let (asked, ls, e) = live_here _ _ ks g.left inside (sym c.is_live.ensures ∙ w.if-not-is_live.false) in
           let other : c.loop-chunk.chunk + header_words ≡ c.args.b → ⊥ = omega (arith, c.loop-chunk-test.true) in
-          (ls, rw (w.link-is, c.wide-chunk.ensures) (search_past_live _ _ _ _ _ asked ls (rw e at g) other))
+          (ls, rw w.link-is (search_past_live _ _ _ _ _ asked ls (rw e at g) other))
     ]
 
 pub returns-then-chunk-start : goal.returns-then-chunk-start
@@ -51,17 +55,15 @@ returns-then-chunk-start c =
 
 pub returns-then-not-is_live-2 : goal.returns-then-not-is_live-2
 returns-then-not-is_live-2 c =
-    let reached : c.loop-chunk.chunk < length c.args.a.now = omega (arith, c.if-chunk-start.false, c.if-a-b.false) in
-    let found = c in
-    let (ks, g) = found.loop-chunk.invariant in
-    let (ls, e) = free_here _ _ ks g.left reached (sym c.is_live-2.ensures ∙ c.if-not-is_live-2.true) in
+    let (ks, g) = c.loop-chunk.invariant in
+    let inside = reached (goal.at.returns-then-not-is_live-2 c).Else-chunk-start in
+    let (ls, e) = free_here _ _ ks g.left inside (sym c.is_live-2.ensures ∙ c.if-not-is_live-2.true) in
     search_above _ _ _ _ ls (search_past_free _ _ _ _ _ ls (rw e at g))
-    (omega (arith, found.if-chunk-start.false, found.if-b-lt-HEADER_WORDS.false, size_here _ _ ks g.left reached))
+    (omega (arith, c.if-chunk-start.false, c.if-b-lt-HEADER_WORDS.false, size_here _ _ ks g.left inside))
 
 pub returns : goal.returns
 returns c =
-    let reached : c.loop-chunk.chunk < length c.args.a.now = omega (arith, c.if-chunk-start.false, c.if-a-b.false) in
-    let found = c in
-    let (ks, g) = found.loop-chunk.invariant in
-    let (asked, ls, e) = live_here _ _ ks g.left reached (sym c.is_live-2.ensures ∙ c.if-not-is_live-2.false) in
-    search_stops _ _ _ _ _ asked ls (rw e at g) (omega (arith, found.if-chunk-start.false, found.if-b-lt-HEADER_WORDS.false))
+    let (ks, g) = c.loop-chunk.invariant in
+    let inside = reached (goal.at.returns c).Else-chunk-start in
+    let (asked, ls, e) = live_here _ _ ks g.left inside (sym c.is_live-2.ensures ∙ c.if-not-is_live-2.false) in
+    search_stops _ _ _ _ _ asked ls (rw e at g) (omega (arith, c.if-chunk-start.false, c.if-b-lt-HEADER_WORDS.false))

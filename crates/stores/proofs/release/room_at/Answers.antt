@@ -1,43 +1,40 @@
 -- `release::room_at` meets its contract: the bounds follow from the words of the chunk (`around`), and the room is read
 -- with a free chunk right after it, or alone.
-use mathlib.Core.Path.{refl}
-use native.Mathlib.Omega.{arith}
+use Rattle.std.proofs.Common.{arith}
 use Rattle.stores.proofs.RoomReading.{Around, around, room_beside, room_alone}
 use Rattle.stores.proofs.release.room_at.Goals as goal
+use Rattle.stores.proofs.release.room_at.Goals.{Start}
 
-pub offset_bounds-a-chunk : goal.offset_bounds-a-chunk
-offset_bounds-a-chunk c = let h = around _ _ _ _ _ c.requires refl refl in omega arith
+-- the live chunk, in numbers
+here : (c : Start) → Around c.args.a.now c.args.place.link c.args.place.chunk
+here c = around _ _ _ c.requires
 
-pub bounds-a-chunk : goal.bounds-a-chunk
-bounds-a-chunk c = let h = around _ _ _ _ _ c.requires refl refl in omega arith
+pub offset_bounds-a-place : goal.offset_bounds-a-place
+offset_bounds-a-place c = omega (arith, here (goal.at.offset_bounds-a-place c).Start)
 
-pub offset_bounds-a-link : goal.offset_bounds-a-link
-offset_bounds-a-link c = let h = around _ _ _ _ _ c.requires refl refl in omega arith
+pub bounds-a-place : goal.bounds-a-place
+bounds-a-place c = omega (arith, here (goal.at.bounds-a-place c).Start)
 
-pub bounds-a-link : goal.bounds-a-link
-bounds-a-link c = let h = around _ _ _ _ _ c.requires refl refl in omega arith
+pub offset_bounds-a-place-2 : goal.offset_bounds-a-place-2
+offset_bounds-a-place-2 c = omega (arith, here (goal.at.offset_bounds-a-place-2 c).Start)
+
+pub bounds-a-place-2 : goal.bounds-a-place-2
+bounds-a-place-2 c = omega (arith, here (goal.at.bounds-a-place-2 c).Start)
 
 pub bounds-a-next : goal.bounds-a-next
 bounds-a-next c =
-    let here : let x = c.args in
-    Around x.a.now x.link x.chunk c.wide-size.result c.wide-next.result = around _ _ _ _ _ c.requires c.wide-size.ensures c.wide-next.ensures in
-    let h = here in let j = h.next_room c.if-next-chunk.true in omega arith
-
-pub bounds-a-next-then-next-chunk : goal.bounds-a-next-then-next-chunk
-bounds-a-next-then-next-chunk c =
-    let here : let x = c.args in
-    Around x.a.now x.link x.chunk c.wide-size.result c.wide-next.result = around _ _ _ _ _ c.requires c.wide-size.ensures c.wide-next.ensures in
-    let h = here in let j = h.next_room c.if-next-chunk.true in
+    let h = here (goal.at.bounds-a-next c).Start in
+    let j = h.next_room c.if-next-place.true in
     omega arith
 
-pub returns-then-next-chunk : goal.returns-then-next-chunk
-returns-then-next-chunk c =
-    λ pre s asked post st.
-    let d = c in
-    rw (c.wide-then-next-chunk.ensures, c.wide.ensures)
-    (room_beside _ pre s asked post _ _ _ _ st d.wide-size.ensures d.wide-next.ensures c.if-next-chunk.true).2
+pub bounds-a-next-then-next-place : goal.bounds-a-next-then-next-place
+bounds-a-next-then-next-place c =
+    let h = here (goal.at.bounds-a-next-then-next-place c).Start in
+    let j = h.next_room c.if-next-place.true in
+    omega arith
+
+pub returns-then-next-place : goal.returns-then-next-place
+returns-then-next-place c pre s asked post st = (room_beside _ pre s asked post _ _ st c.if-next-place.true).2
 
 pub returns : goal.returns
-returns c =
-    λ pre s asked post st. room_alone _ pre s asked post _ _ _ _ st c.wide-size.ensures c.wide-next.ensures
-    c.if-next-chunk.false
+returns c pre s asked post st = room_alone _ pre s asked post _ _ st c.if-next-place.false

@@ -1,156 +1,98 @@
 -- `relocate_at` meets its contract: the search finds no room and nothing is done, or the need is taken, the words are
 -- copied and the old block is freed where it still stands.
-use mathlib.Core.Path.{◌≡◌, refl, sym, ap, ◌∙◌}
-use mathlib.Core.List.{List}
-use Prim.Native.Nat.{ℕ, ◌+◌, ◌-◌, ◌≤◌, min}
-use native.Mathlib.Omega.{arith}
-use lib.ListN.{length}
-use Rattle.layout.specs.Numbers.{header_words, greatest_length}
+use Rattle.std.proofs.Common.{ℕ, List, ◌≡◌, ◌-◌, refl, arith}
+use Rattle.std.specs.Prelude.{min}
+use Rattle.layout.specs.Numbers.{header_words}
 use Rattle.layout.specs.Chunks.{Chunk, live}
-use Rattle.rules.specs.Rules.{taken}
-use Rattle.passes.specs.Places.{Placed}
-use Rattle.passes.proofs.Standing.{Reads, reads}
 use Rattle.layout.specs.Walk.{chunks_of}
 use Rattle.rules.specs.Fits.{first_fit_policy}
+use Rattle.rules.specs.Rules.{taken}
 use Rattle.rules.proofs.Fits.{first_fitting}
+use Rattle.passes.specs.Places.{Placed}
+use Rattle.passes.proofs.Standing.{Reads, reads}
 use Rattle.passes.proofs.Finding.{FoundGap, found_gap, found_nowhere}
 use Rattle.stores.specs.Taken.{Took}
-use Rattle.stores.specs.Beside.{Beside}
 use Rattle.ways.proofs.Allotting.{took_small}
-use Rattle.ways.proofs.Relinking.{front, back, took_beside, took_stands, took_moved}
+use Rattle.ways.proofs.Relinking.{took_inside, took_stands, took_moved}
 use Rattle.ways.proofs.moving.relocate_at.Goals as goal
+use Rattle.ways.proofs.moving.relocate_at.Goals.{Start, After-min-count}
 
-pub returns-in_default : goal.returns-in_default
-returns-in_default c =
-    λ pre s asked post st. rw (found_nowhere _ (sym c.in_default.is ∙ c.first_fit-place.ensures))
-    (record { answers = refl; leaves = refl })
+-- the block's chunk, in numbers
+stood : (c : Start) → let p = c.requires.0 in Reads c.args.a.now p.0 (live p.1 p.2) p.3 c.args.place.link c.args.place.chunk
+stood c = reads _ _ _ _ _ _ c.requires.0.4
+
+-- the free chunk that was found
+found : (c : After-min-count) → let x = c.args in
+    FoundGap (first_fit_policy x.ask.need (chunks_of x.a.now)) x.a.now x.ask.need c.in_ok-gap.gap.link c.in_ok-gap.gap.chunk
+found c = found_gap _ _ _ (first_fitting _ _) _ _ c.requires.0.4.is_sound c.in_ok-gap.ensures
+
+-- what was taken of it
+took : (c : After-min-count) → let x = c.args in let f = found c in
+    Took x.a.now f.0 f.1 f.2 x.ask.need x.ask.asked c.take-piece.result c.take-piece.new.a
+took c = c.take-piece.ensures _ _ _ (found c).4
+
+-- as many words are copied as the shorter of the two blocks has
+counted : (c : After-min-count) (pre : List Chunk) (s asked : ℕ) (post : List Chunk)
+    → Placed c.args.a.now pre (live s asked) post c.args.place.link c.args.place.chunk
+    → c.min-count.result ≡ min (s - header_words) (taken c.args.ask.need (found c).1 - header_words)
+counted c pre s asked post st =
+    omega (arith, c.min-count.ensures, c.block_words-old_words.ensures, c.block_words.ensures, (took c).has, (reads _ _ _ _ _ _ st).size_is)
+
+pub returns-in_err-gap : goal.returns-in_err-gap
+returns-in_err-gap c pre s asked post st =
+    rw (c.from_residual.ensures, found_nowhere _ c.in_err-gap.ensures) (record { answers = refl; leaves = refl })
 
 pub offset_bounds-a-chunk : goal.offset_bounds-a-chunk
-offset_bounds-a-chunk c =
-    let stood : let p = c.requires.0 in Reads c.args.a.now p.0 (live p.1 p.2) p.3 c.args.link c.args.chunk = reads _ _ _ _ _ _ c.requires.0.4 in
-    let r = stood in omega arith
+offset_bounds-a-chunk c = omega (arith, stood (goal.at.offset_bounds-a-chunk c).Start)
 
 pub bounds-a-chunk : goal.bounds-a-chunk
-bounds-a-chunk c =
-    let stood : let p = c.requires.0 in Reads c.args.a.now p.0 (live p.1 p.2) p.3 c.args.link c.args.chunk = reads _ _ _ _ _ _ c.requires.0.4 in
-    let r = stood in omega arith
+bounds-a-chunk c = omega (arith, stood (goal.at.bounds-a-chunk c).Start)
 
 pub take-piece-requires : goal.take-piece-requires
 take-piece-requires c =
-    let gap : let x = c.args in FoundGap (first_fit_policy x.need (chunks_of x.a.now)) x.a.now x.need c.in-At.gap_link
-    c.in-At.gap = let x = c.requires in
-    found_gap _ _ _ (first_fitting _ _) _ _ x.0.4.is_sound (sym c.in-At.is ∙ c.first_fit-place.ensures) in
-    let d = c in
-    let f = gap in
-    (f.0, f.1, f.2, f.4, f.5, c.requires.1)
+    let (before, g, after, _, st, enough) = found_gap _ _ _ (first_fitting _ _) _ _ c.requires.0.4.is_sound c.in_ok-gap.ensures in
+    (before, g, after, st, enough, c.requires.1)
 
 pub overflow_add-chunk : goal.overflow_add-chunk
-overflow_add-chunk c =
-    let stood : let p = c.requires.0 in Reads c.args.a.now p.0 (live p.1 p.2) p.3 c.args.link c.args.chunk = reads _ _ _ _ _ _ c.requires.0.4 in
-    let r = stood in omega arith
+overflow_add-chunk c = omega (arith, stood (goal.at.overflow_add-chunk c).Start)
 
 pub overflow_add-new : goal.overflow_add-new
 overflow_add-new c =
-    let gap : let x = c.args in FoundGap (first_fit_policy x.need (chunks_of x.a.now)) x.a.now x.need c.in-At.gap_link
-    c.in-At.gap = let x = c.requires in
-    found_gap _ _ _ (first_fitting _ _) _ _ x.0.4.is_sound (sym c.in-At.is ∙ c.first_fit-place.ensures) in
-    let took : let x = c.args in let f = gap in Took x.a.now f.0 f.1 f.2 x.need x.asked c.take-piece.result c.take-piece.new.a = c.take-piece.ensures _ _ _ gap.4 in
-    let small : (c.take-piece.result.chunk ≤ greatest_length) × (c.take-piece.result.words ≤ greatest_length) = let f = gap in took_small f.4 f.5 took in
-    let p = small in omega arith
+    let at = (goal.at.overflow_add-new c).After-min-count in
+    omega (arith, took_small (found at).4 (found at).5 (took at))
 
 pub copy-requires : goal.copy-requires
 copy-requires c =
-    let Old : List Chunk → ℕ → ℕ → List Chunk → Type 0 = λ pre s asked post. Placed c.args.a.now pre (live s asked) post c.args.link c.args.chunk in
-    let gap : let x = c.args in FoundGap (first_fit_policy x.need (chunks_of x.a.now)) x.a.now x.need c.in-At.gap_link
-    c.in-At.gap = let x = c.requires in
-    found_gap _ _ _ (first_fitting _ _) _ _ x.0.4.is_sound (sym c.in-At.is ∙ c.first_fit-place.ensures) in
-    let old_words : (pre : List Chunk) (s asked : ℕ) (post : List Chunk) → Old pre s asked post
-    → c.block_words-old_words.result ≡ s - header_words = λ pre s asked post st. let d = c in
-    d.block_words-old_words.ensures ∙ ap (λ (w : ℕ). w - header_words) (d.wide.ensures ∙ (reads _ _ _ _ _ _ st).size_is) in
-    let took : let x = c.args in let f = gap in Took x.a.now f.0 f.1 f.2 x.need x.asked c.take-piece.result c.take-piece.new.a = c.take-piece.ensures _ _ _ gap.4 in
-    let counted : let d = c in
-    (pre : List Chunk) (s asked : ℕ) (post : List Chunk) → Old pre s asked post
-    → c.smaller-count.result ≡ min (s - header_words) (taken c.args.need gap.1 - header_words) = λ pre s asked post st. let d = c in
-    omega (arith, c.smaller-count.ensures, old_words pre s asked post st, c.block_words.ensures, took.has) in
-    let beside : let d = c in
-    (pre : List Chunk) (s asked : ℕ) (post : List Chunk) → Old pre s asked post
-    → Beside (length d.take-piece.new.a) (c.args.chunk + header_words) (d.take-piece.result.chunk + header_words) c.smaller-count.result = λ pre s asked post st. let d = c in
-    let f = gap in
-    took_beside _ _ _ _ _ _ _ st _ _ _ _ _ f.4 _ _ c.requires.1 f.5 _ _ took _ (counted pre s asked post st) in
-    let m = c in beside _ _ _ _ (c).requires.0.4
+    let at = (goal.at.copy-requires c).After-min-count in
+    let f = found at in
+    let (pre, s, asked, post, st) = c.requires.0 in
+    omega (arith, took_inside _ pre s asked post _ _ st _ _ _ _ _ f.4 _ _ c.requires.1 f.5 _ _ (took at) _ (counted at pre s asked post st))
 
-pub link_after-requires : goal.link_after-requires
-link_after-requires c =
-    let gap : let x = c.args in FoundGap (first_fit_policy x.need (chunks_of x.a.now)) x.a.now x.need c.in-At.gap_link
-    c.in-At.gap = let x = c.requires in
-    found_gap _ _ _ (first_fitting _ _) _ _ x.0.4.is_sound (sym c.in-At.is ∙ c.first_fit-place.ensures) in
-    let r = reads _ _ _ _ _ _ gap.4 in omega arith
+pub link_after-link-requires : goal.link_after-link-requires
+link_after-link-requires c = omega (arith, reads _ _ _ _ _ _ (found (goal.at.link_after-link-requires c).After-min-count).4)
 
 pub release-requires : goal.release-requires
 release-requires c =
-    let Old : List Chunk → ℕ → ℕ → List Chunk → Type 0 = λ pre s asked post. Placed c.args.a.now pre (live s asked) post c.args.link c.args.chunk in
-    let gap : let x = c.args in FoundGap (first_fit_policy x.need (chunks_of x.a.now)) x.a.now x.need c.in-At.gap_link
-    c.in-At.gap = let x = c.requires in
-    found_gap _ _ _ (first_fitting _ _) _ _ x.0.4.is_sound (sym c.in-At.is ∙ c.first_fit-place.ensures) in
-    let old_words : (pre : List Chunk) (s asked : ℕ) (post : List Chunk) → Old pre s asked post
-    → c.block_words-old_words.result ≡ s - header_words = λ pre s asked post st. let d = c in
-    d.block_words-old_words.ensures ∙ ap (λ (w : ℕ). w - header_words) (d.wide.ensures ∙ (reads _ _ _ _ _ _ st).size_is) in
-    let took : let x = c.args in let f = gap in Took x.a.now f.0 f.1 f.2 x.need x.asked c.take-piece.result c.take-piece.new.a = c.take-piece.ensures _ _ _ gap.4 in
-    let counted : let d = c in
-    (pre : List Chunk) (s asked : ℕ) (post : List Chunk) → Old pre s asked post
-    → c.smaller-count.result ≡ min (s - header_words) (taken c.args.need gap.1 - header_words) = λ pre s asked post st. let d = c in
-    omega (arith, c.smaller-count.ensures, old_words pre s asked post st, c.block_words.ensures, took.has) in
-    let standing : let d = c in let f = gap in let x = c in
-    (pre : List Chunk) (s asked : ℕ) (post : List Chunk) (st : Old pre s asked post)
-    → Placed c.copy.new.a
-    (front _ pre s asked post _ _ st _ _ _ _ _ f.4 x.args.need x.args.asked x.requires.1 f.5) (live s asked)
-    (back _ pre s asked post _ _ st _ _ _ _ _ f.4 x.args.need x.args.asked x.requires.1 f.5) c.link_after.result x.args.chunk = λ pre s asked post st. let m = c in
-    let d = c in
-    let f = gap in
-    took_stands _ _ _ _ _ _ _ st _ _ _ _ _ f.4 _ _ c.requires.1 f.5 _ _ took _ (counted pre s asked post st) _
-    c.copy.ensures _
-    c.link_after.ensures in
-    (_, _, _, _, standing _ _ _ _ (c).requires.0.4)
+    let at = (goal.at.release-requires c).After-min-count in
+    let f = found at in
+    let (pre, s, asked, post, st) = c.requires.0 in (
+      _,
+      s,
+      asked,
+      _,
+      took_stands _ pre s asked post _ _ st _ _ _ _ _ f.4 _ _ c.requires.1 f.5 _ _ (took at) _ (counted at pre s asked post st)
+          _ c.copy.ensures _ c.link_after-link.ensures,
+    )
 
-pub grants-requires : goal.grants-requires
-grants-requires c =
-    let gap : let x = c.args in FoundGap (first_fit_policy x.need (chunks_of x.a.now)) x.a.now x.need c.in-At.gap_link
-    c.in-At.gap = let x = c.requires in
-    found_gap _ _ _ (first_fitting _ _) _ _ x.0.4.is_sound (sym c.in-At.is ∙ c.first_fit-place.ensures) in
-    let took : let x = c.args in let f = gap in Took x.a.now f.0 f.1 f.2 x.need x.asked c.take-piece.result c.take-piece.new.a = c.take-piece.ensures _ _ _ gap.4 in
-    let small : (c.take-piece.result.chunk ≤ greatest_length) × (c.take-piece.result.words ≤ greatest_length) = let f = gap in took_small f.4 f.5 took in
-    small
+pub grant-requires : goal.grant-requires
+grant-requires c =
+    let at = (goal.at.grant-requires c).After-min-count in
+    took_small (found at).4 (found at).5 (took at)
 
 pub returns : goal.returns
-returns c =
-    let Old : List Chunk → ℕ → ℕ → List Chunk → Type 0 = λ pre s asked post. Placed c.args.a.now pre (live s asked) post c.args.link c.args.chunk in
-    let gap : let x = c.args in FoundGap (first_fit_policy x.need (chunks_of x.a.now)) x.a.now x.need c.in-At.gap_link
-    c.in-At.gap = let x = c.requires in
-    found_gap _ _ _ (first_fitting _ _) _ _ x.0.4.is_sound (sym c.in-At.is ∙ c.first_fit-place.ensures) in
-    let old_words : (pre : List Chunk) (s asked : ℕ) (post : List Chunk) → Old pre s asked post
-    → c.block_words-old_words.result ≡ s - header_words = λ pre s asked post st. let d = c in
-    d.block_words-old_words.ensures ∙ ap (λ (w : ℕ). w - header_words) (d.wide.ensures ∙ (reads _ _ _ _ _ _ st).size_is) in
-    let took : let x = c.args in let f = gap in Took x.a.now f.0 f.1 f.2 x.need x.asked c.take-piece.result c.take-piece.new.a = c.take-piece.ensures _ _ _ gap.4 in
-    let counted : let d = c in
-    (pre : List Chunk) (s asked : ℕ) (post : List Chunk) → Old pre s asked post
-    → c.smaller-count.result ≡ min (s - header_words) (taken c.args.need gap.1 - header_words) = λ pre s asked post st. let d = c in
-    omega (arith, c.smaller-count.ensures, old_words pre s asked post st, c.block_words.ensures, took.has) in
-    let standing : let d = c in let f = gap in let x = c in
-    (pre : List Chunk) (s asked : ℕ) (post : List Chunk) (st : Old pre s asked post)
-    → Placed c.copy.new.a
-    (front _ pre s asked post _ _ st _ _ _ _ _ f.4 x.args.need x.args.asked x.requires.1 f.5) (live s asked)
-    (back _ pre s asked post _ _ st _ _ _ _ _ f.4 x.args.need x.args.asked x.requires.1 f.5) c.link_after.result x.args.chunk = λ pre s asked post st. let m = c in
-    let d = c in
-    let f = gap in
-    took_stands _ _ _ _ _ _ _ st _ _ _ _ _ f.4 _ _ c.requires.1 f.5 _ _ took _ (counted pre s asked post st) _
-    c.copy.ensures _
-    c.link_after.ensures in
-    λ pre s asked post st.
-    let l = c in
-    let m = c in
-    let d = c in
-    let f = gap in
-    rw c.grants.ensures
-    (took_moved _ _ _ _ _ _ _ st _ _ _ _ _ f.4 _ _ c.requires.1 f.5 _ _ took _ (counted pre s asked post st) f.3 _
-    l.copy.ensures _
-    (c.release.ensures _ _ _ _ (standing pre s asked post st)))
+returns c pre s asked post st =
+    let at = (goal.at.returns c).After-min-count in
+    let f = found at in
+    rw c.grant.ensures
+    (took_moved _ pre s asked post _ _ st _ _ _ _ _ f.4 _ _ c.requires.1 f.5 _ _ (took at) _ (counted at pre s asked post st)
+    f.3 _ c.copy.ensures _ c.link_after-link.ensures _ c.release.ensures)
