@@ -30,6 +30,7 @@ fn run_case<R: Read, W: Write>(
     output: &mut W,
     buffers: &mut Buffers,
 ) -> io::Result<()> {
+    // Whole slices first: of an array's field no smaller part can be lent at once.
     let list = &mut buffers.list[..];
     let space = &mut buffers.space[..];
     let bytes = &mut buffers.bytes[..];

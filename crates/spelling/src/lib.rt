@@ -11,6 +11,7 @@ pub fn load(bytes: &[u8], words: &mut [u32])
     ensures { words.new ≡ words_of bytes.now }
 {
     let (spelled, _) = bytes.as_chunks::<4>();
+    // By index, since no contract says what is stored through a zip with `iter_mut`.
     for (i, word) in words.iter_mut().enumerate() {
         *word = u32::from_le_bytes(spelled[i]);
     }
@@ -21,6 +22,7 @@ pub fn store(words: &[u32], bytes: &mut [u8])
     requires { length bytes.old ≡ 4 * length words.now }
     ensures { bytes.new ≡ bytes_of words.now }
 {
+    // By index, since no contract says what is stored through `chunks_exact_mut`.
     for (i, word) in words.iter().enumerate() {
         let at = 4 * i;
         bytes[at..at + 4].copy_from_slice(&word.to_le_bytes());
