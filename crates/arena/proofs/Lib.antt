@@ -1,2 +1,3 @@
--- The laws of the views.
+-- The laws of the views, and what the report cites.
 pub mod Viewing
+pub mod Reporting

@@ -1,5 +1,6 @@
 // An allocator over one lent arena of 32-bit words. A call asks nothing of its caller: it is done as the rules say, or
-// it is refused with a reason and changes nothing.
+// it is refused with a reason and changes nothing. The three allocs differ in the search, and the three calls that grant
+// a block anew in the way: a function that is handed the one step would be as long as the three lines around it.
 #![tactic(auto)]
 
 ghost use Rattle.rules.specs.Answers.{Gives};
@@ -101,10 +102,10 @@ pub fn realloc(a: &mut [u32], b: u32, n: u32) -> Granted
 pub fn size(a: &[u32], b: u32) -> Sized
     ensures { Gives (size_on a.now b) (sized_numbers result) a.now }
 {
-    let chunk = targets::locate(a, b)?.chunk;
+    let place = targets::locate(a, b)?;
     Ok(Sizes {
-        asked: layout::asked_in(a[chunk + 1]),
-        granted: layout::block_words(a[chunk] as usize) as u32,
+        asked: layout::asked_in(a[place.chunk + 1]),
+        granted: layout::block_words(a[place.chunk] as usize) as u32,
     })
 }
 
@@ -133,7 +134,7 @@ pub fn view_mut(a: &mut [u32], b: u32) -> &mut [u32]
 }
 
 // The free words, the largest request that would be granted now, the live blocks and the free chunks.
-#[tactic(auto, using(walk::proofs::Counted::chunks_open, walk::proofs::Counted::no_chunks_shut, rules::proofs::Gates::gate_open, rules::proofs::ReportCounts::counts_small, rules::proofs::ReportCounts::live_or_free), unfolding(rules::specs::Calls::report_on))]
+#[tactic(auto, using(crate::proofs::Reporting::report_laws), unfolding(rules::specs::Calls::report_on))]
 pub fn report(a: &[u32]) -> Reported
     ensures { Gives (report_on a.now) (reported_numbers result) a.now }
 {

@@ -36,11 +36,11 @@ fn call(a: &mut [u32], kind: u32, b: u32, n: u32) -> Numbers
 fn in_record(numbers: Numbers) -> Served
     ensures { result ≡ served_in numbers }
 {
-    let fields = numbers.fields;
+    let [block, granted, ..] = numbers.fields;
     Served {
         code: numbers.code,
-        block: fields[0],
-        granted: fields[1],
+        block,
+        granted,
     }
 }
 

@@ -6,7 +6,10 @@ use native.Mathlib.Omega.{arith}
 use lib.ListN.{length, length-append}
 use lib.Seq.{take_at, drop_at}
 use borrow.Author.Tests.{lt-leb, le-leb}
-use Rattle.layout.specs.Reasons.{number, arena_gate}
+use Rattle.layout.specs.Numbers.{greatest_length}
+use Rattle.layout.specs.Reasons.{number, Gate, arena_gate}
+use Rattle.layout.proofs.Round.{sound_chunks}
+use Rattle.rules.proofs.Gates.{gate_open}
 use Rattle.std.specs.Prelude.{Ok, Err}
 use Rattle.layout.specs.declared.Reason.{Reason}
 use Rattle.layout.specs.declared.Reason.TheVariants.{TextRoom}
@@ -88,6 +91,10 @@ pub frames_room : (words : List ℕ) (start : ℕ) → start ≡ line_length 0 �
 frames_room words start e = omega (arith, picture_length_lem words, frames_length (frames_for (length words)) 0 words refl)
 
 -- ---- what comes of that
+
+-- an arena is not too long
+pub open_length : (a : List ℕ) (gate : Gate) → gate ≡ arena_gate a → gate ≡ Ok tt → length a ≤ greatest_length
+open_length a gate checked opens = (sound_chunks a (gate_open a (sym opens ∙ checked))).law.most
 
 module _ (a text : List ℕ) where
   pub writes_shut : (why : Reason) → Err why ≡ arena_gate a → Writes a text (refusal 1 why) text

@@ -17,6 +17,7 @@ ghost use Rattle.picture.specs.Writing.{Writes};
 ghost use Rattle.picture.specs.Decoding.{Accepts};
 
 // Writes the picture of a sound arena to the start of the text, whose rest stays, and answers how many bytes it has.
+#[tactic(auto, using(crate::proofs::LineByLine::open_length, rules::proofs::Pictures::picture_length_lem))]
 pub fn write(a: &[u32], text: &mut [u8]) -> Written
     ensures { Writes a.now text.old (written_numbers result) text.new }
 {

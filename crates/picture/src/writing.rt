@@ -5,6 +5,7 @@ ghost use Rattle.digits.specs.Putting.{Puts};
 ghost use Rattle.rules.specs.Pictures.{picture_of};
 
 // Writes the picture of these words to the start of a text, and gives how long it is.
+#[tactic(auto, using(rules::proofs::Pictures::picture_length_lem))]
 pub(crate) fn put_picture(words: &[u32], text: &mut [u8]) -> usize
     requires { (length words.now < four_digit_values) × (length (picture_of words.now) ≤ length text.old) }
     ensures { Puts 0 (picture_of words.now) text.old result text.new }

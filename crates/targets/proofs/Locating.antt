@@ -30,6 +30,10 @@ use Rattle.targets.specs.Targets.{past, ask_of, need_in, located, target_by, tar
 use Rattle.targets.specs.declared.Target.{Target}
 use Rattle.targets.proofs.Granting.{way_gives}
 
+-- the length of an arena that passes its gate is lawful
+pub gate_lawful : (a : List ℕ) → Ok tt ≡ arena_gate a → lawful (length a) ≡ true
+gate_lawful a e = sound_lawful a (gate_open a e)
+
 -- ---- the block
 
 module _ (a : List ℕ) (b : ℕ) where
@@ -60,7 +64,7 @@ module _ (a : List ℕ) (b : ℕ) where
 
 -- so the arena's length is lawful
 pub located_lawful : (a : List ℕ) (b : ℕ) (place : Place) → Ok place ≡ located a b → lawful (length a) ≡ true
-located_lawful a b place e = sound_lawful a (gate_open a (sym (block_located a b place e).0))
+located_lawful a b place e = gate_lawful a (sym (block_located a b place e).0)
 
 -- ---- the block and what is asked
 

@@ -26,7 +26,7 @@ fn need_in(words: usize, n: u32) -> Result<Ask, Reason>
 }
 
 // A request for a new block of `n` words: the arena is checked, and then the request.
-#[tactic(auto, using(layout::proofs::Round::sound_lawful, rules::proofs::Gates::gate_open), unfolding(crate::specs::Targets::asked_for))]
+#[tactic(auto, using(crate::proofs::Locating::gate_lawful), unfolding(crate::specs::Targets::asked_for))]
 pub fn ask(a: &[u32], n: u32) -> Result<Ask, Reason>
     ensures { result ≡ asked_for a.now n }
 {

@@ -16,7 +16,7 @@ here c = block_located _ _ _ c.in_ok-place.ensures
 
 pub returns-in_err-place : goal.returns-in_err-place
 unfolding free_on
-returns-in_err-place c = 
+returns-in_err-place c =
     handed_on no_fields 0 _ _ c.from_residual.ensures.1
     (rw (not_located _ _ _ c.in_err-place.ensures _) (record { answers = refl; leaves = refl }))
 

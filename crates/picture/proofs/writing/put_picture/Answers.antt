@@ -2,13 +2,9 @@
 use Rattle.std.proofs.Common.{◌≡◌, ◌*◌, ◌+◌, ◌∙◌, [], arith}
 use Rattle.digits.proofs.Putting.{put_length}
 use Rattle.rules.specs.Pictures.{line_length}
-use Rattle.rules.proofs.Pictures.{picture_length_lem}
 use Rattle.frames.proofs.Lines.{line_ends}
 use Rattle.picture.proofs.LineByLine.{drawing_room, drawing_next, drawing_ends, frames_room}
 use Rattle.picture.proofs.writing.put_picture.Goals as goal
-
-pub put_line-at-requires : goal.put_line-at-requires
-put_line-at-requires c = omega (arith, picture_length_lem c.args.words.now)
 
 pub put_line-at-requires-in-loop-k : goal.put_line-at-requires-in-loop-k
 put_line-at-requires-in-loop-k c =

@@ -66,7 +66,7 @@ copy-requires c =
     let at = (goal.at.copy-requires c).After-min-count in
     let f = found at in
     let (pre, s, asked, post, st) = c.requires.0 in
-    omega (arith, took_inside _ pre s asked post _ _ st _ _ _ _ _ f.4 _ _ c.requires.1 f.5 _ _ (took at) _ (counted at pre s asked post st))
+    omega (arith, took_inside st f.4 c.requires.1 f.5 (took at) (counted at pre s asked post st))
 
 pub link_after-link-requires : goal.link_after-link-requires
 link_after-link-requires c = omega (arith, reads _ _ _ _ _ _ (found (goal.at.link_after-link-requires c).After-min-count).4)
@@ -80,7 +80,7 @@ release-requires c =
       s,
       asked,
       _,
-      took_stands _ pre s asked post _ _ st _ _ _ _ _ f.4 _ _ c.requires.1 f.5 _ _ (took at) _ (counted at pre s asked post st)
+      took_stands st f.4 c.requires.1 f.5 (took at) (counted at pre s asked post st)
           _ c.copy.ensures _ c.link_after-link.ensures,
     )
 
@@ -94,5 +94,5 @@ returns c pre s asked post st =
     let at = (goal.at.returns c).After-min-count in
     let f = found at in
     rw c.grant.ensures
-    (took_moved _ pre s asked post _ _ st _ _ _ _ _ f.4 _ _ c.requires.1 f.5 _ _ (took at) _ (counted at pre s asked post st)
+    (took_moved st f.4 c.requires.1 f.5 (took at) (counted at pre s asked post st)
     f.3 _ c.copy.ensures _ c.link_after-link.ensures _ c.release.ensures)
