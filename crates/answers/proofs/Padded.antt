@@ -1,32 +1,34 @@
 -- Nothing is lost where an answer is padded: its fields are the first of the four, and it has no more.
-use Prim.Native.Nat.{ℕ}
+use Prim.Native.Nat.{ℕ, ◌≤◌}
 use mathlib.Core.Path.{◌≡◌, refl, ap, ◌∙◌}
-use mathlib.Core.List.{List}
+use mathlib.Core.List.{List, [], ◌∷◌}
+use native.Mathlib.Omega.{arith}
+use lib.ListN.{length, take, length-replicate}
+use Rattle.layout.specs.declared.Reason.{Reason}
 use Rattle.rules.specs.Answers.{Answer, Outcome, Gives}
-use Rattle.answers.specs.Readings.{Finish, Granted, Sized, Reported, Written, finish_numbers, granted_numbers, sized_numbers, reported_numbers, written_numbers}
-use Rattle.answers.specs.Padded.{padded, answer_in, Settles}
+use Rattle.answers.specs.Readings.{read}
+use Rattle.answers.specs.FieldLaws.{FieldLaws}
+use Rattle.answers.specs.Padded.{four, padded, answer_in, Settles}
 use Rattle.answers.specs.declared.Numbers.{Numbers}
-use Rattle.std.specs.Prelude.{Ok, Err}
+use Rattle.std.specs.Prelude.{Result, Ok, Err}
 
-pub finish_told : (r : Finish) → answer_in (padded (finish_numbers r)) ≡ finish_numbers r
-finish_told (Ok done) = refl
-finish_told (Err why) = refl
+-- no more than four fields are the first of the four
+fields_told : (values : List ℕ) → length values ≤ 4 → take (length values) (four values) ≡ values
+fields_told [] few = refl
+fields_told (w ∷ []) few = refl
+fields_told (w ∷ (x ∷ [])) few = refl
+fields_told (w ∷ (x ∷ (y ∷ []))) few = refl
+fields_told (w ∷ (x ∷ (y ∷ (z ∷ [])))) few = refl
+fields_told (w ∷ (x ∷ (y ∷ (z ∷ (v ∷ values))))) few = absurd (omega arith)
 
-pub granted_told : (r : Granted) → answer_in (padded (granted_numbers r)) ≡ granted_numbers r
-granted_told (Ok grant) = refl
-granted_told (Err why) = refl
+pub padded_told : (answer : Answer) → length answer.values ≤ 4 → answer_in (padded answer) ≡ answer
+padded_told answer few = ap (λ (values : List ℕ). record { code = answer.code; values = values }) (fields_told answer.values few)
 
-pub sized_told : (r : Sized) → answer_in (padded (sized_numbers r)) ≡ sized_numbers r
-sized_told (Ok sizes) = refl
-sized_told (Err why) = refl
-
-pub reported_told : (r : Reported) → answer_in (padded (reported_numbers r)) ≡ reported_numbers r
-reported_told (Ok counts) = refl
-reported_told (Err why) = refl
-
-pub written_told : (r : Written) → answer_in (padded (written_numbers r)) ≡ written_numbers r
-written_told (Ok bytes) = refl
-written_told (Err why) = refl
+-- an answer has as many fields as its kind, a refusal too
+pub read_count : {A : Type 0} {values : A → List ℕ} {count : ℕ} → FieldLaws values count → (answer : Result A Reason)
+    → length (read values count answer).values ≡ count
+read_count laws (Ok it) = laws.counted it
+read_count {count = count} laws (Err why) = length-replicate count 0
 
 -- a call gives an answer, and these are that answer's numbers
 pub settled : {outcome : Outcome} {answer : Answer} {words : List ℕ} {numbers : Numbers} → Gives outcome answer words → numbers ≡ padded answer

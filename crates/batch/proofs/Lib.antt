@@ -1,4 +1,3 @@
 -- The laws of records, and of the loops over them.
-pub mod InRecords
 pub mod BatchTurns
 pub mod SixWords

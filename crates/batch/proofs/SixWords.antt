@@ -59,9 +59,6 @@ pub record Spelling (ys xs : List ℕ) (at : ℕ) (ws rs : List ℕ) : Type 0 wh
   pub left : left_over tail ≡ left_over xs
   pub goes : behind before (batch_on ws (records_in tail)) ≡ batch_on ys (records_in xs)
 
-pub spelling_begins : (ys xs : List ℕ) → Spelling ys xs 0 ys xs
-spelling_begins ys xs = record { before = []; tail = xs; place = refl; words_are = refl; left = refl; goes = refl }
-
 -- the answer of a record is put behind what it asks
 put_behind : (p : List ℕ) (r : Request) (rest : List ℕ) (c l g : ℕ)
     → sets (p ++ (spelled (r ∷ []) ++ rest)) (length p + 3) (c ∷ l ∷ g ∷ []) ≡ p ++ (r.kind ∷ r.b ∷ r.n ∷ c ∷ l ∷ g ∷ rest)

@@ -14,30 +14,33 @@ use answers::Numbers;
 use layout::Reason;
 pub use rules::{Request, Served};
 
-// Makes the call of this kind, if there is one.
+// Makes the call of this kind, if there is one. A kind is a number, since a record that C fills in may hold any, and it
+// is read here alone.
+#[tactic(auto, using(answers::proofs::Padded::settled), unfolding(rules::specs::Batches::wanted))]
 fn call(a: &mut [u32], kind: u32, b: u32, n: u32) -> Numbers
     ensures { Settles (made_singly ours (wanted kind b n) a.old) result a.new }
 {
     match kind {
-        1 => answers::granted_numbers(arena::alloc(a, n)),
-        2 => answers::finish_numbers(arena::free(a, b)),
-        3 => answers::granted_numbers(arena::realloc(a, b, n)),
-        4 => answers::granted_numbers(arena::resize(a, b, n)),
-        5 => answers::granted_numbers(arena::relocate(a, b, n)),
-        6 => answers::sized_numbers(arena::size(a, b)),
+        1 => answers::in_numbers(arena::alloc(a, n)),
+        2 => answers::in_numbers(arena::free(a, b)),
+        3 => answers::in_numbers(arena::realloc(a, b, n)),
+        4 => answers::in_numbers(arena::resize(a, b, n)),
+        5 => answers::in_numbers(arena::relocate(a, b, n)),
+        6 => answers::in_numbers(arena::size(a, b)),
         _ => answers::refusal_numbers(0, Reason::Frame),
     }
 }
 
-// An answer as a record has it: the first two of its fields, which are 0 where it has none.
+// An answer as a record has it: the first two of its fields, which are 0 where it has none. (No `From`: neither type is
+// this crate's own.)
 fn in_record(numbers: Numbers) -> Served
     ensures { result ≡ served_in numbers }
 {
-    let fields = numbers.fields;
+    let [block, granted, ..] = numbers.fields;
     Served {
         code: numbers.code,
-        block: fields[0],
-        granted: fields[1],
+        block,
+        granted,
     }
 }
 

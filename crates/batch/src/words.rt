@@ -29,10 +29,9 @@ pub fn run(a: &mut [u32], records: &mut [u32])
     ensures { FillsWords (batch_on a.old (records_in records.old))
         records.old records.new a.new }
 {
-    let mut at = 0;
-    while RECORD_WORDS <= records.len() - at {
+    for record in 0..records.len() / RECORD_WORDS {
+        let at = record * RECORD_WORDS;
         let served = serve(a, records[at], records[at + 1], records[at + 2]);
         put_answer(records, at, served);
-        at += RECORD_WORDS;
     }
 }

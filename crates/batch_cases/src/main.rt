@@ -3,10 +3,8 @@
 // arena's. A reply is the records' words and the arena's words after the batch.
 #![tactic(auto)]
 
-ghost use Rattle.batch_cases.specs.BatchRooms.{BatchRooms};
-
 use batch::words;
-use layout::wide;
+use std::io;
 use std::io::{Read, Write};
 
 // The most words of the records, and of an arena: those of a few hundred records, and more than is lawful.
@@ -14,88 +12,51 @@ const MOST_RECORD_WORDS: usize = 4096;
 
 const MOST_WORDS: usize = layout::GREATEST_LENGTH + 16;
 
-// Reads the records and the arena of a case, runs the batch and writes the reply; false where that cannot be done.
-fn run_batch<R: Read, W: Write>(
-    input: &mut R,
-    output: &mut W,
-    records: &mut [u32],
-    a: &mut [u32],
-    bytes: &mut [u8],
-) -> bool
-    requires { BatchRooms records.old a.old bytes.old }
-{
-    if !wire::read_words(input, records, bytes) {
-        return false;
-    }
-    if !wire::read_words(input, a, bytes) {
-        return false;
-    }
-    words::run(a, records);
-    if !wire::write_words(output, records, bytes) {
-        return false;
-    }
-    wire::write_words(output, a, bytes)
+// The bytes that spell the words of either.
+const MOST_BYTES: usize = 4 * MOST_WORDS;
+
+// What a case is read to and written from: its records, its arena, and the bytes that spell either.
+#[derive(Drop)]
+struct Buffers {
+    list: [u32; MOST_RECORD_WORDS],
+    space: [u32; MOST_WORDS],
+    bytes: [u8; MOST_BYTES],
 }
 
-// Runs one case, whose records and arena are read to the start of `list` and `space`; false where there is no whole
+// Runs one case, whose records and arena are read to the start of `list` and `space`; an error where there is no whole
 // case, where they are too long for these, or where the reply cannot be written.
 fn run_case<R: Read, W: Write>(
     input: &mut R,
     output: &mut W,
-    list: &mut [u32],
-    space: &mut [u32],
-    bytes: &mut [u8],
-) -> bool
-    requires { BatchRooms list.old space.old bytes.old }
-{
+    buffers: &mut Buffers,
+) -> io::Result<()> {
+    // Whole slices first: of an array's field no smaller part can be lent at once.
+    let list = &mut buffers.list[..];
+    let space = &mut buffers.space[..];
+    let bytes = &mut buffers.bytes[..];
     let mut head = [0u32; 2];
-    if !wire::read_words(input, &mut head, bytes) {
-        return false;
+    wire::read_words(input, &mut head, bytes)?;
+    let [record_words, arena_words] = head.map(|count| count as usize);
+    if list.len() < record_words || space.len() < arena_words {
+        return Err(io::ErrorKind::InvalidData.into());
     }
-    let record_words = wide(head[0]);
-    let words = wide(head[1]);
-    if list.len() < record_words {
-        return false;
-    }
-    if space.len() < words {
-        return false;
-    }
-    run_batch(
-        input,
-        output,
-        &mut list[..record_words],
-        &mut space[..words],
-        bytes,
-    )
+    let records = &mut list[..record_words];
+    let a = &mut space[..arena_words];
+    wire::read_words(input, records, bytes)?;
+    wire::read_words(input, a, bytes)?;
+    words::run(a, records);
+    wire::write_words(output, records, bytes)?;
+    wire::write_words(output, a, bytes)
 }
 
-// Runs cases until one cannot be run. A proved loop has to end, so turns are counted down from a number that no run
-// uses up.
-fn run_cases<R: Read, W: Write>(
-    input: &mut R,
-    output: &mut W,
-    list: &mut [u32],
-    space: &mut [u32],
-    bytes: &mut [u8],
-)
-    requires { BatchRooms list.old space.old bytes.old }
-{
-    let mut turns = u64::MAX;
-    while turns > 0 && run_case(input, output, list, space, bytes) {
-        turns -= 1;
-    }
-}
-
-// Lends the buffers.
+// Lends the buffers, and runs cases until one cannot be run.
 fn main(rt: HostRuntime) {
-    let mut list = [0u32; MOST_RECORD_WORDS];
-    let mut space = [0u32; MOST_WORDS];
-    let mut bytes = [0u8; 4 * MOST_WORDS];
-    run_cases(
-        &mut rt.stdin(),
-        &mut rt.stdout(),
-        &mut list,
-        &mut space,
-        &mut bytes,
-    );
+    let mut input = rt.stdin();
+    let mut output = rt.stdout();
+    let mut buffers = Buffers {
+        list: [0; MOST_RECORD_WORDS],
+        space: [0; MOST_WORDS],
+        bytes: [0; MOST_BYTES],
+    };
+    wire::run_until_it_fails(|| run_case(&mut input, &mut output, &mut buffers));
 }

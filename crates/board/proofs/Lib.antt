@@ -1,3 +1,2 @@
--- What a turn shows, and what all turns come to.
-pub mod Turning
+-- What all turns come to.
 pub mod Runs

@@ -48,3 +48,6 @@ module _ (bytes : List ℕ) where
       go true e (unlawful l) = is_unlawful (eqb-true _ _ e) (ap lawful (sym (words_spelled bytes)) ∙ l)
       go true e (damaged l d) = is_damaged (eqb-true _ _ e) (ap lawful (sym (words_spelled bytes)) ∙ l) d
       go true e (whole d) = is_sound (eqb-true _ _ e) d
+
+-- what each end of the check has to show
+pub ruleset reasons = (bytes_over, whole_words, unlawful_words)

@@ -6,25 +6,26 @@ ghost use Rattle.layout.specs.Reasons.{arena_gate};
 ghost use Rattle.spelling.specs.Words.{words_of};
 ghost use Rattle.desk.specs.Checks.{gate_number, bytes_gate};
 
-use layout::{Gate, Reason};
+use layout::Reason;
 
 // Whether the words that bytes spell, four bytes each, the lowest first, are a sound arena: the reasons of every call.
-fn check_words(spelled: &[u8]) -> Gate
+#[tactic(auto, using(crate::proofs::Checks::reasons))]
+fn check_words(spelled: &[u8]) -> Result<(), Reason>
     ensures { result ≡ bytes_gate spelled.now }
 {
     let n = spelled.len() / 4;
     if spelled.len() % 4 != 0 {
-        return Gate::Shut(Reason::Length);
+        return Err(Reason::Length);
     }
     if !layout::is_lawful(n) {
-        return Gate::Shut(Reason::Length);
+        return Err(Reason::Length);
     }
     let mut words = [0u32; layout::GREATEST_LENGTH];
     load_and_check(spelled, &mut words[..n])
 }
 
 // Loads the words that bytes spell, and checks them.
-fn load_and_check(spelled: &[u8], words: &mut [u32]) -> Gate
+fn load_and_check(spelled: &[u8], words: &mut [u32]) -> Result<(), Reason>
     requires { length spelled.now ≡ 4 * length words.old }
     ensures { result ≡ arena_gate (words_of spelled.now) }
 {
@@ -37,9 +38,8 @@ fn load_and_check(spelled: &[u8], words: &mut [u32]) -> Gate
 pub fn check(spelled: &[u8]) -> u32
     ensures { result ≡ gate_number (bytes_gate spelled.now) }
 {
-    let gate = check_words(spelled);
-    match gate {
-        Gate::Open => 0,
-        Gate::Shut(why) => layout::number(why),
+    match check_words(spelled) {
+        Ok(()) => 0,
+        Err(why) => u32::from(why),
     }
 }

@@ -26,21 +26,6 @@ worth_upper b = go (between 97 102 b) refl
         ∙ omega arith ∙ sym (worth_known b false false true (above 48 57 b (omega arith)) (above 65 70 b (omega arith)) e)
     go false e = refl
 
--- a capital is no small letter
-no_small : (b : ℕ) → between 97 102 (upper b) ≡ false
-unfolding upper
-no_small b = go (between 97 102 b) refl
-  where
-    go : (letter : Bool) → between 97 102 b ≡ letter → between 97 102 (cond letter (b - 97 + 65) b) ≡ false
-    go true e = let (least, most) = within 97 102 b e in below 97 102 (b - 97 + 65) (omega arith)
-    go false e = e
-
--- the two tests of a byte's capital say what the byte is worth
-pub worth_as_capital : (b c : ℕ) (p q : Bool) → c ≡ upper b → between 48 57 c ≡ p → between 65 70 c ≡ q
-    → worth b ≡ cond p (c - 48) (cond q (c - 65 + 10) 16)
-worth_as_capital b c p q e f g =
-    sym (worth_upper b) ∙ ap worth (sym e) ∙ worth_known c p q false f g (ap (between 97 102) e ∙ no_small b)
-
 pub number_upper : (n : ℕ) (bs : List ℕ) → number_from n (map upper bs) ≡ number_from n bs
 number_upper n [] = refl
 number_upper n (b ∷ bs) = ap (λ (w : ℕ). number_from (n * 16 + w) (map upper bs)) (worth_upper b) ∙ number_upper (n * 16 + worth b) bs

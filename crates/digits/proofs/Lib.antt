@@ -5,3 +5,4 @@ pub mod Reading
 pub mod Capitals
 pub mod NumbersFound
 pub mod Putting
+pub mod Counts

@@ -1,17 +1,15 @@
 -- Bytes put into a text one after the other; numbers put so, each in its digits.
-use Prim.Native.Nat.{ℕ, suc, ◌+◌, ◌*◌, ◌≤◌, ◌<◌}
+use Prim.Native.Nat.{ℕ, suc, zero, ◌+◌, ◌*◌, ◌/◌, ◌%◌, ◌≤◌, ◌<◌}
 use mathlib.Core.Path.{◌≡◌, refl, sym, ap, ◌∙◌}
 use mathlib.Core.List.{List, [], ◌∷◌, ◌++◌, append_assoc, append-nil}
 use native.Mathlib.Omega.{arith}
-use native.Mathlib.Nat.{suc-mul}
+use native.Mathlib.Nat.{suc-mul, mul-le-mul_right}
+use native.Mathlib.Numerals.{add-one}
 use lib.ListN.{length, get_or, take, drop, set, length-append}
 use lib.Seq.{sets, sets-eq, length-sets, length-take-le, take-suc}
-use Rattle.digits.specs.Digits.{line_end, in_digits}
+use Rattle.std.proofs.lemmas.List.{set_comm}
+use Rattle.digits.specs.Digits.{line_end, glyph, digits_of, in_digits}
 use Rattle.digits.specs.Putting.{Puts}
-
--- two bytes, one after the other
-pub two_sets : (l : List ℕ) (i x y : ℕ) → set (set l i x) (i + 1) y ≡ sets l i (x ∷ y ∷ [])
-two_sets l i x y = let e : i + 1 ≡ suc i = omega arith in ap (λ (k : ℕ). set (set l i x) k y) e
 
 -- two runs of bytes are one
 pub sets_append : (xs ys : List ℕ) (l : List ℕ) (i d : ℕ) → d ≡ i + length xs → sets l i (xs ++ ys) ≡ sets (sets l i xs) d ys
@@ -54,21 +52,44 @@ module _ (digits : ℕ → List ℕ) (width : ℕ) (each : (v : ℕ) → length 
   in_length (v ∷ vs) =
       length-append (digits v) (in_digits digits vs) ∙ omega (arith, each v, in_length vs, suc-mul (length vs) width)
 
-  in_append : (vs ws : List ℕ) → in_digits digits (vs ++ ws) ≡ in_digits digits vs ++ in_digits digits ws
-  in_append [] ws = refl
-  in_append (v ∷ vs) ws = ap (λ (bs : List ℕ). digits v ++ bs) (in_append vs ws) ∙ sym (append_assoc (digits v) (in_digits digits vs) (in_digits digits ws))
+in_append : (digits : ℕ → List ℕ) (vs ws : List ℕ) → in_digits digits (vs ++ ws) ≡ in_digits digits vs ++ in_digits digits ws
+in_append digits [] ws = refl
+in_append digits (v ∷ vs) ws =
+    ap (λ (bs : List ℕ). digits v ++ bs) (in_append digits vs ws) ∙ sym (append_assoc (digits v) (in_digits digits vs) (in_digits digits ws))
 
-  -- one more number is put behind those before it
-  pub in_on : (values room : List ℕ) (at i : ℕ) → i < length values
-      → sets (sets room at (in_digits digits (take i values))) (at + i * width) (digits (get_or values i 0))
-      ≡ sets room at (in_digits digits (take (i + 1) values))
-  in_on values room at i less =
-      let front = take i values in
-      let n : length (in_digits digits front) ≡ i * width
-      = in_length front ∙ ap (λ (k : ℕ). k * width) (length-take-le i values (omega arith)) in
-      let e : i + 1 ≡ suc i = omega arith in
-      let one : digits (get_or values i 0) ≡ in_digits digits (get_or values i 0 ∷ []) = sym (append-nil (digits (get_or values i 0))) in
-      sym (sets_append (in_digits digits front) (digits (get_or values i 0)) room at (at + i * width) (omega (arith, n)))
-      ∙ ap (λ (bs : List ℕ). sets room at (in_digits digits front ++ bs)) one
-      ∙ ap (sets room at) (sym (in_append front (get_or values i 0 ∷ [])))
-      ∙ ap (λ (vs : List ℕ). sets room at (in_digits digits vs)) (sym (take-suc values i 0 less) ∙ ap (λ (k : ℕ). take k values) (sym e))
+-- one number more
+pub in_next : (digits : ℕ → List ℕ) (vs : List ℕ) (i : ℕ) → i < length vs
+    → in_digits digits (take (i + 1) vs) ≡ in_digits digits (take i vs) ++ digits (get_or vs i 0)
+in_next digits vs i less =
+    ap (in_digits digits) (rw add-one (take-suc vs i 0 less)) ∙ in_append digits (take i vs) (get_or vs i 0 ∷ [])
+    ∙ ap (λ (bs : List ℕ). in_digits digits (take i vs) ++ bs) (append-nil (digits (get_or vs i 0)))
+
+-- ---- a number in digits
+
+pub digits_count : (count v : ℕ) → length (digits_of count v) ≡ count
+unfolding digits_of
+digits_count zero v = refl
+digits_count (suc more) v = length-append (digits_of more (v / 16)) (glyph (v % 16) ∷ []) ∙ omega (arith, digits_count more (v / 16))
+
+-- a byte behind others may be put before them
+set_before : (bs l : List ℕ) (i j x : ℕ) → i + length bs ≤ j → sets (set l j x) i bs ≡ set (sets l i bs) j x
+set_before [] l i j x h = refl
+set_before (b ∷ bs) l i j x h =
+    ap (λ (m : List ℕ). sets m (suc i) bs) (set_comm l j i x b (λ e. omega arith)) ∙ set_before bs (set l i b) (suc i) j x (omega arith)
+
+-- a number's last digit, and then those before it
+pub last_first : (more rest : ℕ) (l : List ℕ) (at : ℕ)
+    → sets (set l (at + more) (glyph (rest % 16))) at (digits_of more (rest / 16)) ≡ sets l at (digits_of (suc more) rest)
+unfolding digits_of
+last_first more rest l at =
+    let n = digits_count more (rest / 16) in
+    set_before (digits_of more (rest / 16)) l at (at + more) (glyph (rest % 16)) (omega arith)
+    ∙ sym (sets_append (digits_of more (rest / 16)) (glyph (rest % 16) ∷ []) l at (at + more) (omega arith))
+
+-- behind the numbers that are put there is room for one more, where there is room for all of them
+pub room_left : (digits i : ℕ) (vs : List ℕ) {at end : ℕ} {room text : List ℕ} → i < length vs
+    → Puts at (in_digits (digits_of digits) (take i vs)) room end text → end + digits ≤ at + length vs * digits
+room_left digits i vs less put =
+    let front : length (in_digits (digits_of digits) (take i vs)) ≡ i * digits
+    = in_length (digits_of digits) digits (digits_count digits) (take i vs) ∙ ap (λ (k : ℕ). k * digits) (length-take-le i vs (omega arith)) in
+    omega (arith, put.ends, front, suc-mul i digits, mul-le-mul_right {m = suc i} {n = length vs} digits (omega arith))

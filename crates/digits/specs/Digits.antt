@@ -1,5 +1,5 @@
 -- Hexadecimal digits as bytes: either case is read, upper case is written.
-use Rattle.std.specs.Prelude.{ℕ, ◌+◌, ◌-◌, ◌*◌, ◌/◌, ◌%◌, Bool, true, cond, ◌&&◌, List, [], ◌∷◌, ◌++◌, leb, ltb}
+use Rattle.std.specs.Prelude.{ℕ, zero, suc, ◌+◌, ◌-◌, ◌*◌, ◌/◌, ◌%◌, Bool, true, cond, ◌&&◌, List, [], ◌∷◌, ◌++◌, leb, ltb}
 
 -- the byte that ends a line
 abbrev pub line_end : ℕ
@@ -44,7 +44,12 @@ two_digit_values = 256
 abbrev pub four_digit_values : ℕ
 four_digit_values = 65536
 
--- a number's last two digits, its last four, and its last eight
+-- so many of a number's last digits
+unfoldable pub digits_of : ℕ → ℕ → List ℕ
+digits_of zero v = []
+digits_of (suc more) v = digits_of more (v / 16) ++ glyph (v % 16) ∷ []
+
+-- its last two, its last four, and its last eight: that `digits_of` gives them is proved in `Counts`
 abbrev pub two_digits : ℕ → List ℕ
 two_digits v = glyph (v / 16 % 16) ∷ glyph (v % 16) ∷ []
 

@@ -1,30 +1,33 @@
 -- A line put part by part, words that are loaded one by one, and a line that is compared byte by byte.
-use Prim.Native.Nat.{ℕ, suc, ◌+◌, ◌-◌, ◌%◌, ◌≤◌, ◌<◌}
-use mathlib.Core.Path.{◌≡◌, ap, ◌∙◌}
-use mathlib.Core.Bool.{true, false, ◌&&◌}
+use Prim.Native.Nat.{ℕ, zero, suc, ◌+◌, ◌-◌, ◌%◌, ◌≤◌, ◌<◌}
+use mathlib.Core.Path.{◌≡◌, refl, sym, ap}
+use mathlib.Core.Bool.{Bool, true, false, and-false}
 use mathlib.Core.List.{List, [], ◌∷◌, ◌++◌, map}
 use native.Mathlib.Omega.{arith}
-use native.Mathlib.Numerals.{add-one}
-use lib.ListN.{length, get_or, take, drop, set, drop_of_length-le}
-use lib.Seq.{drop-cons, drop-drop, take-append_seam}
-use lib.Dec.{eqb}
+use lib.ListN.{length, take, drop, set}
+use lib.Seq.{drop-drop, take-append_seam}
 use borrow.Author.Tests.{eq-eqb, ne_eqb}
+use Rattle.std.specs.Bool.{MatchBool}
+use Rattle.std.specs.List.{zip, AllWithin, HoldsAt}
 use Rattle.layout.specs.Numbers.{word_values}
-use Rattle.digits.specs.Digits.{line_end, number_of, upper, two_digits, four_digits, eight_digits, in_digits}
+use Rattle.digits.specs.Digits.{line_end, number_of, upper, two_digits, four_digits, eight_digits, digits_of, in_digits}
 use Rattle.digits.specs.Putting.{Puts}
+use Rattle.digits.proofs.Counts.{two_of, four_of, eight_of, in_same}
 use Rattle.digits.proofs.Putting.{puts_line, put_front}
 use Rattle.rules.specs.Pictures.{line, line_length, words_in, same}
 use Rattle.rules.proofs.Pictures.{line_length_lem}
 use Rattle.frames.specs.Lines.{has_line}
 
 -- kind, number, words and the line's end, one after the other
-pub line_put : (kind number at end : ℕ) (ws room one two three : List ℕ) → Puts at (two_digits kind) room (at + 2) one
-    → Puts (at + 2) (four_digits number) one (at + 2 + 4) two → Puts (at + 6) (in_digits eight_digits ws) two end three
+pub line_put : (kind number at end : ℕ) (ws room one two three : List ℕ) → Puts at (digits_of 2 kind) room (at + 2) one
+    → Puts (at + 2) (digits_of 4 number) one (at + 2 + 4) two → Puts (at + 6) (in_digits (digits_of 8) ws) two end three
     → Puts at (line kind number ws) room (end + 1) (set three end line_end)
 unfolding line
 line_put kind number at end ws room one two three first second words =
-    puts_line at (at + 2) (at + 6) end (two_digits kind) (four_digits number) (in_digits eight_digits ws) room one two three first
-    (record { ends = omega arith; says = second.says }) words
+    let number_put : Puts (at + 2) (four_digits number) one (at + 6) two
+    = rw (← four_of number) (record { ends = omega (arith, second.ends); says = second.says }) in
+    puts_line at (at + 2) (at + 6) end (two_digits kind) (four_digits number) (in_digits eight_digits ws) room one two three
+    (rw two_of at first) number_put (rw (in_same (digits_of 8) eight_digits eight_of) at words)
 
 -- where a line that was put ends
 pub line_ends : (kind number : ℕ) (words : List ℕ) {at end : ℕ} {room text : List ℕ} → Puts at (line kind number words) room end text
@@ -59,20 +62,31 @@ no_words_left left text e = rw e
 
 -- ---- a line that is compared
 
--- two texts from byte `i` on: the first byte of each, and the rest
-module _ (part expected : List ℕ) (i : ℕ) (h : i < length part) (k : i < length expected) where
-  step : same (map upper (drop i part)) (drop i expected)
-      ≡ (eqb (upper (get_or part i 0)) (get_or expected i 0) && same (map upper (drop (i + 1) part)) (drop (i + 1) expected))
-  unfolding same
-  step = rw (drop-cons part i 0 h, drop-cons expected i 0 k, add-one)
+-- two texts of one length are the same if the bytes of each pair are alike, and else one pair decides
+abbrev pub Alike : ℕ × ℕ → Type 0
+Alike pair = upper pair.0 ≡ pair.1
 
-  pub same_next : upper (get_or part i 0) ≡ get_or expected i 0
-      → same (map upper (drop i part)) (drop i expected) ≡ same (map upper (drop (i + 1) part)) (drop (i + 1) expected)
-  same_next e = step ∙ rw (eq-eqb _ _ e)
+abbrev pub Differ : ℕ × ℕ → Type 0
+Differ pair = upper pair.0 ≡ pair.1 → ⊥
 
-  pub differ_here : (upper (get_or part i 0) ≡ get_or expected i 0 → ⊥) → same (map upper (drop i part)) (drop i expected) ≡ false
-  differ_here n = step ∙ rw (ne_eqb _ _ n)
-
-pub same_ended : (part expected : List ℕ) (i : ℕ) → length part ≤ i → length expected ≤ i → same (map upper (drop i part)) (drop i expected) ≡ true
+all_alike : (xs ys : List ℕ) → length xs ≡ length ys → AllWithin Alike (zip xs ys) 0 (length (zip xs ys)) → same (map upper xs) ys ≡ true
 unfolding same
-same_ended part expected i h k = rw (drop_of_length-le part h, drop_of_length-le expected k)
+all_alike [] [] long alike = refl
+all_alike [] (y ∷ ys) long alike = absurd (omega arith)
+all_alike (x ∷ xs) [] long alike = absurd (omega arith)
+all_alike (x ∷ xs) (y ∷ ys) long alike =
+    rw (eq-eqb _ _ (alike 0 (x, y) (omega arith) (omega arith)))
+    (all_alike xs ys (omega arith) (λ k pair least less. alike (suc k) pair (omega arith) (omega arith)))
+
+one_differs : (xs ys : List ℕ) (k : ℕ) → k < length (zip xs ys) → HoldsAt Differ (zip xs ys) k → same (map upper xs) ys ≡ false
+unfolding same
+one_differs [] ys k less differ = absurd (omega arith)
+one_differs (x ∷ xs) [] k less differ = absurd (omega arith)
+one_differs (x ∷ xs) (y ∷ ys) zero less differ = rw (ne_eqb _ _ (differ (x, y)))
+one_differs (x ∷ xs) (y ∷ ys) (suc k) less differ = rw (one_differs xs ys k (omega arith) differ, and-false)
+
+pub same_told : (xs ys : List ℕ) → length xs ≡ length ys → (r : Bool)
+    → MatchBool r (AllWithin Alike (zip xs ys) 0 (length (zip xs ys))) ((k : ℕ) × (k < length (zip xs ys)) × HoldsAt Differ (zip xs ys) k)
+    → r ≡ same (map upper xs) ys
+same_told xs ys long true alike = sym (all_alike xs ys long alike)
+same_told xs ys long false found = sym (one_differs xs ys found.0 found.1 found.2)

@@ -2,15 +2,18 @@
 #![tactic(auto)]
 
 ghost use Rattle.std.specs.Prelude.{◌≡◌, map, ◌+◌, ◌*◌, ◌≤◌, ◌<◌, length, drop};
-ghost use Rattle.digits.specs.Digits.{upper, four_digit_values, eight_digits, in_digits};
+ghost use Rattle.digits.specs.Digits.{upper, four_digit_values};
 ghost use Rattle.digits.specs.Putting.{Puts};
 ghost use Rattle.rules.specs.Pictures.{frame_words, line, line_length, picture_length, words_in, standing_count, same};
-ghost use Rattle.frames.specs.Lines.{has_line};
+ghost use Rattle.frames.specs.Lines.{kind_number, has_line};
 
-// The kinds of lines: the first one, with the number of words, and a frame.
-pub const SIZE_LINE: u32 = 6;
+// The kinds of lines, by the number that a line begins with: the first one, with the number of words, and a frame.
+#[derive(Clone, Copy)]
+pub enum Kind {
+    Size = 6,
+    Frame = 7,
+}
 
-pub const FRAME: u32 = 7;
 // The words of a full frame.
 pub const FRAME_WORDS: usize = 8;
 // The digits of a word.
@@ -39,27 +42,14 @@ pub fn picture_length(n: usize) -> usize
     (1 + frames) * BARE_LINE + n * WORD_DIGITS
 }
 
-// Writes words in eight digits each, and gives where they end.
-fn put_words(out: &mut [u8], at: usize, words: &[u32]) -> usize
-    requires { at + length words.now * 8 ≤ length out.old }
-    ensures { Puts at (in_digits eight_digits words.now) out.old result out.new }
-{
-    let mut i = 0;
-    while i < words.len() {
-        digits::put_eight(out, at + i * WORD_DIGITS, words[i]);
-        i += 1;
-    }
-    at + words.len() * WORD_DIGITS
-}
-
 // Writes a line, and gives where it ends.
-pub fn put_line(out: &mut [u8], at: usize, kind: u32, number: u32, words: &[u32]) -> usize
+pub fn put_line(out: &mut [u8], at: usize, kind: Kind, number: u32, words: &[u32]) -> usize
     requires { at + line_length (length words.now) ≤ length out.old }
-    ensures { Puts at (line kind number words.now) out.old result out.new }
+    ensures { Puts at (line (kind_number kind) number words.now) out.old result out.new }
 {
-    digits::put_two(out, at, kind);
-    digits::put_four(out, at + 2, number);
-    let end = put_words(out, at + LINE_HEAD, words);
+    digits::put::<2>(out, at, kind as u32);
+    digits::put::<4>(out, at + 2, number);
+    let end = digits::put_all::<WORD_DIGITS>(out, at + LINE_HEAD, words);
     out[end] = b'\n';
     end + 1
 }
@@ -70,10 +60,9 @@ pub fn load_words(text: &[u8], at: usize, words: &mut [u32])
     requires { at + length words.old * 8 ≤ length text.now }
     ensures { words.new ≡ words_in (length words.old) (drop at text.now) }
 {
-    let mut i = 0;
-    while i < words.len() {
-        words[i] = (digits::eight_at(text, at + i * WORD_DIGITS) % layout::WORD_VALUES) as u32;
-        i += 1;
+    for (i, word) in words.iter_mut().enumerate() {
+        *word = (digits::number_at::<WORD_DIGITS>(text, at + i * WORD_DIGITS)
+            % layout::WORD_VALUES) as u32;
     }
 }
 
@@ -82,7 +71,7 @@ pub fn words_told(text: &[u8]) -> usize
     requires { line_length 0 ≤ length text.now }
     ensures { result ≡ standing_count text.now }
 {
-    (digits::four_at(text, 2) % digits::FOUR_DIGIT_VALUES) as usize
+    (digits::number_at::<4>(text, 2) % digits::FOUR_DIGIT_VALUES) as usize
 }
 
 // Whether a part of a text, its letters as capitals, is this line.
@@ -90,24 +79,17 @@ fn matches(part: &[u8], expected: &[u8]) -> bool
     requires { length part.now ≡ length expected.now }
     ensures { result ≡ same (map upper part.now) expected.now }
 {
-    let mut alike = true;
-    let mut i = 0;
-    while i < expected.len() {
-        if digits::upper(part[i]) != expected[i] {
-            alike = false;
-        }
-        i += 1;
-    }
-    alike
+    part.iter()
+        .zip(expected)
+        .all(|(b, wanted)| digits::upper(*b) == *wanted)
 }
 
 // Whether this line stands in a text at byte `at`, digits of either case.
-pub fn has_line(text: &[u8], at: usize, kind: u32, number: u32, words: &[u32]) -> bool
+pub fn has_line(text: &[u8], at: usize, kind: Kind, number: u32, words: &[u32]) -> bool
     requires { (length words.now ≤ frame_words) × (at + line_length (length words.now) ≤ length text.now) }
-    ensures { result ≡ has_line (line kind number words.now) (drop at text.now) }
+    ensures { result ≡ has_line (line (kind_number kind) number words.now) (drop at text.now) }
 {
     let mut expected = [0u8; LONGEST_LINE];
     let count = put_line(&mut expected, 0, kind, number, words);
-    let end = at + count;
-    matches(&text[at..end], &expected[..count])
+    matches(&text[at..at + count], &expected[..count])
 }

@@ -40,22 +40,19 @@ fn hear_byte(heard: Heard, b: u8, words: &mut [u32], out: &mut [u8]) -> Heard
     ensures { HearsByte heard.place (lending words.old heard.lent) b
         result.place words.new result.lent heard.written out.old result.written out.new }
 {
-    let place = heard.place;
     if b == b'\n' {
-        let request = requests::request_at(place);
+        let request = requests::request_at(heard.place);
         let said = replies::answer(request, words, heard.lent, out, heard.written);
         return Heard {
             place: requests::at_start(),
             lent: said.lent,
-            taken: heard.taken,
             written: said.end,
+            ..heard
         };
     }
     Heard {
-        place: requests::onward(place, b),
-        lent: heard.lent,
-        taken: heard.taken,
-        written: heard.written,
+        place: requests::onward(heard.place, b),
+        ..heard
     }
 }
 
@@ -65,20 +62,17 @@ pub fn hear(last: Heard, words: &mut [u32], piece: &[u8], out: &mut [u8]) -> Hea
     ensures { HearsAll last.place (board_of words.old last.lent)
         (answerable piece.now out.old) out.old result words.new out.new }
 {
-    let most = layout::smaller(piece.len(), out.len() / LONGEST_REPLY);
-    let place = last.place;
+    let most = piece.len().min(out.len() / LONGEST_REPLY);
     let mut heard = Heard {
-        place,
-        lent: layout::smaller(last.lent, words.len()),
+        lent: last.lent.min(words.len()),
         taken: 0,
         written: 0,
+        ..last
     };
-    let mut taken = 0;
-    while taken < most {
-        heard = hear_byte(heard, piece[taken], words, out);
-        taken += 1;
+    for &b in &piece[..most] {
+        heard = hear_byte(heard, b, words, out);
     }
-    heard.taken = taken;
+    heard.taken = most;
     heard
 }
 
@@ -87,8 +81,7 @@ pub fn close(last: Heard, words: &mut [u32], out: &mut [u8]) -> Heard
     ensures { HearsAll last.place (board_of words.old last.lent)
         (answerable (ending last.place) out.old) out.old result words.new out.new }
 {
-    let place = last.place;
-    if place.digits == 0 {
+    if last.place.digits == 0 {
         return hear(last, words, &[], out);
     }
     hear(last, words, b"\n", out)

@@ -1,5 +1,5 @@
 -- What the searches found: the free chunk that was picked for a need, and the block that a number names.
-use mathlib.Core.Path.{◌≡◌, refl, ap}
+use mathlib.Core.Path.{◌≡◌, refl, ap, ◌∙◌}
 use mathlib.Core.Bool.{true}
 use mathlib.Core.List.{List}
 use Prim.Native.Nat.{ℕ, ◌+◌, ◌≤◌}
@@ -57,13 +57,26 @@ unfolding place_of
 found_nowhere nowhere e = refl
 found_nowhere (at pre k post) e = cc
 
--- ---- next fit: what was found from the rover on or, where none was found there, what `round` says
+-- ---- next fit
 
-pub found_next : (rover need : ℕ) (ks : List Chunk) {from result : Option Place} (round : Type 0) → from ≡ place_of (lowest (fits_from rover need) first_chunk ks)
-    → (round → result ≡ place_of (first_fit_policy need ks)) → MatchOption from round (λ p. result ≡ Some p) → result ≡ place_of (next_fit_policy rover need ks)
-unfolding place_of
-found_next rover need ks {result = result} round e first m = go (lowest (fits_from rover need) first_chunk ks) (rw e at m)
-  where
-    go : (spot : Spot) → MatchOption (place_of spot) round (λ p. result ≡ Some p) → result ≡ place_of (or_else_at spot (first_fit_policy need ks))
-    go nowhere q = first q
-    go (at pre k post) q = q
+module _ (rover need : ℕ) (ks : List Chunk) where
+  -- from the rover on a chunk was found
+  pub found_from_rover : (link chunk : ℕ) → Some (place_at link chunk) ≡ place_of (lowest (fits_from rover need) first_chunk ks)
+      → Some (place_at link chunk) ≡ place_of (next_fit_policy rover need ks)
+  unfolding place_of
+  found_from_rover link chunk = go (lowest (fits_from rover need) first_chunk ks)
+    where
+      go : (spot : Spot) → Some (place_at link chunk) ≡ place_of spot → Some (place_at link chunk) ≡ place_of (or_else_at spot (first_fit_policy need ks))
+      go nowhere e = absurd (let z : ◌≡◌ {A = ℕ} 0 1 = cc in omega arith)
+      go (at pre k post) e = e
+
+  -- none was found there, so once round it is the lowest
+  pub found_round : None ≡ place_of (lowest (fits_from rover need) first_chunk ks) → first_fit_policy need ks ≡ next_fit_policy rover need ks
+  found_round e = rw (found_nowhere _ e)
+
+  -- what was found from the rover on or, where none was found there, what `round` says
+  pub found_next : (from : Option Place) {result : Option Place} (round : Type 0) → from ≡ place_of (lowest (fits_from rover need) first_chunk ks)
+      → (round → result ≡ place_of (first_fit_policy need ks)) → MatchOption from round (λ p. result ≡ Some p)
+      → result ≡ place_of (next_fit_policy rover need ks)
+  found_next None round e first m = first m ∙ ap place_of (found_round e)
+  found_next (Some p) round e first m = m ∙ found_from_rover p.link p.chunk e

@@ -7,7 +7,7 @@ use native.Mathlib.Omega.{arith}
 use lib.ListN.{length, take, drop, length-append, length-drop}
 use lib.Seq.{sets, sets-eq, drop-drop, length-take-le, take_at, drop_at}
 use Rattle.digits.specs.Digits.{upper}
-use Rattle.rules.specs.Pictures.{frame, frames_from, frames_for, picture_length, words_in, line_head, line_length, standing_from, same}
+use Rattle.rules.specs.Pictures.{frame, frames_from, frames_for, words_in, line_head, line_length, standing_from, same}
 use Rattle.rules.proofs.Pictures.{line_length_lem, words_count, standing_count_lem}
 use Rattle.rules.proofs.Frames.{NextFrame, frames_next, standing_next, same_split}
 use Rattle.spelling.proofs.Filling.{Filling, filled_on, filled_up}
@@ -82,11 +82,6 @@ stored_length buffer part slot end e h =
     )
 
 module _ (text : List ℕ) (n : ℕ) (old : List ℕ) where
-  pub reading_begins : length text ≡ picture_length n → Reading text n old old (line_length 0) 0
-  reading_begins e =
-      let all : n - 0 ≡ n = omega arith in
-      record { within = omega arith; ahead = omega arith; kept = refl; rest_tells = rw all; filling = λ h. (omega arith, refl, rw all) }
-
   module _ {buffer : List ℕ} {at i : ℕ} (r : Reading text n old buffer at i) where
     module _ (count : ℕ) (next : NextFrame (n - i) count) {part : List ℕ} {found : Bool} (f : ReadsFrame text at i count found part) where
       -- the text goes on where the frame is found, and what follows goes on

@@ -5,9 +5,8 @@ use Prim.Native.Nat.{ℕ}
 use Rattle.rules.specs.Answers.{Answer}
 use Rattle.rules.specs.Calls.{write_on}
 use Rattle.rules.proofs.Outcomes.{gives_as}
-use Rattle.answers.specs.Readings.{written_numbers}
+use Rattle.answers.specs.Readings.{Written, written_numbers}
 use Rattle.answers.specs.Determined.{Determined}
-use Rattle.answers.specs.declared.Written.{Written}
 use Rattle.answers.proofs.Determined.{written_determined}
 use Rattle.picture.specs.Writing.{Writes}
 

@@ -1,12 +1,10 @@
 -- What is found of a text. No public contract cites this file.
-use Rattle.std.specs.Prelude.{ℕ, ◌+◌, ◌≤◌, ◌≡◌, Bool, true, List, map, length, take, drop}
+use Rattle.std.specs.Prelude.{ℕ, ◌+◌, ◌≤◌, ◌≡◌, Bool, true, List, map, length, take, drop, Option, None, Some}
 use Rattle.digits.specs.Digits.{upper}
 use Rattle.rules.specs.Answers.{Answer, Gives, settle}
 use Rattle.rules.specs.Calls.{read_into}
 use Rattle.rules.specs.Pictures.{frame, frames_from, frames_for, line_head, line_length, words_in, standing_from, same, Said, bad, good}
 use Rattle.frames.specs.Lines.{has_line}
-use Rattle.picture.specs.declared.reading.Found.{Found}
-use Rattle.picture.specs.declared.reading.Found.TheVariants.{Words, Bad}
 
 -- `words` are the `count` words of the frame at byte `at`, and `r` tells whether it is the frame of these
 pub record ReadsFrame (text : List ℕ) (at index count : ℕ) (r : Bool) (words : List ℕ) : Type 0 where
@@ -27,15 +25,16 @@ pub record ReadsFrames (text : List ℕ) (n : ℕ) (r : Bool) (buffer : List ℕ
   pub tells : r ≡ holds_frames 0 n (drop (line_length 0) text)
   pub loads : r ≡ true → n ≤ length buffer → take n buffer ≡ standing_from (frames_for n) n (drop (line_length 0) text)
 
--- what a text says was found: that it is bad, or how many words it says and, if the buffer has as many, which
-abbrev pub Finds : Said → Found → List ℕ → Type 0
-Finds bad Bad buffer = Unit {0}
-Finds bad (Words n) buffer = ⊥
-Finds (good ws) Bad buffer = ⊥
-Finds (good ws) (Words n) buffer = (n ≡ length ws) × (n ≤ length buffer → take n buffer ≡ ws)
+-- what a text says was found: nothing where it is bad, or else how many words it says and, if the buffer has as many,
+-- which
+abbrev pub Finds : Said → Option ℕ → List ℕ → Type 0
+Finds bad None buffer = Unit {0}
+Finds bad (Some n) buffer = ⊥
+Finds (good ws) None buffer = ⊥
+Finds (good ws) (Some n) buffer = (n ≡ length ws) × (n ≤ length buffer → take n buffer ≡ ws)
 
 -- words were accepted, or not: if a buffer has what was found of a text that says `n` words, then what is answered, and
 -- the words afterwards, are what comes of that for the words `a`
 abbrev pub Accepts : ℕ → List ℕ → List ℕ → Answer → List ℕ → Type 0
 Accepts n buffer a answer after =
-    (found : Said) → Finds found (Words n) buffer → Gives (settle 0 a (read_into (length a) found)) answer after
+    (found : Said) → Finds found (Some n) buffer → Gives (settle 0 a (read_into (length a) found)) answer after

@@ -3,7 +3,7 @@
 #![tactic(auto)]
 
 pub use answers::{Finish, Written};
-use layout::{Gate, Reason};
+use layout::Reason;
 
 mod reading;
 mod writing;
@@ -16,32 +16,26 @@ ghost use Rattle.answers.specs.Readings.{finish_numbers, written_numbers};
 ghost use Rattle.picture.specs.Writing.{Writes};
 ghost use Rattle.picture.specs.Decoding.{Accepts};
 
-use reading::Found;
-
 // Writes the picture of a sound arena to the start of the text, whose rest stays, and answers how many bytes it has.
+#[tactic(auto, using(crate::proofs::LineByLine::open_length, rules::proofs::Pictures::picture_length_lem))]
 pub fn write(a: &[u32], text: &mut [u8]) -> Written
     ensures { Writes a.now text.old (written_numbers result) text.new }
 {
-    let arena = walk::check_arena(a);
-    if let Gate::Shut(why) = arena {
-        return Written::Refused(why);
-    }
+    walk::check_arena(a)?;
     if text.len() < frames::picture_length(a.len()) {
-        return Written::Refused(Reason::TextRoom);
+        return Err(Reason::TextRoom);
     }
-    Written::Bytes(writing::put_picture(a, text) as u32)
+    Ok(writing::put_picture(a, text) as u32)
 }
 
 // Reads a picture: the arena becomes the words that it shows. Nothing is stored before they are known to be sound.
+#[tactic(auto, using(crate::proofs::Decoding::reads_bad))]
 pub fn read(text: &[u8], a: &mut [u32]) -> Finish
     ensures { Gives (read_on text.now a.old) (finish_numbers result) a.new }
 {
     let mut words = [0u32; layout::GREATEST_LENGTH];
-    let found = reading::decode(text, &mut words);
-    match found {
-        Found::Words(n) => accept(&words, n, a),
-        Found::Bad => Finish::Refused(Reason::Frame),
-    }
+    let n = reading::decode(text, &mut words).ok_or(Reason::Frame)?;
+    accept(&words, n, a)
 }
 
 // Makes the arena the first `n` words, if it has as many and they are a sound arena. That so many words can be an
@@ -52,15 +46,12 @@ fn accept(words: &[u32], n: usize, a: &mut [u32]) -> Finish
     ensures { Accepts n words.now a.old (finish_numbers result) a.new }
 {
     if n != a.len() {
-        return Finish::Refused(Reason::Length);
+        return Err(Reason::Length);
     }
     if !layout::is_lawful(n) {
-        return Finish::Refused(Reason::Length);
+        return Err(Reason::Length);
     }
-    let arena = walk::check_arena(&words[..n]);
-    if let Gate::Shut(why) = arena {
-        return Finish::Refused(why);
-    }
-    spelling::copy(&words[..n], a);
-    Finish::Done
+    walk::check_arena(&words[..n])?;
+    a.copy_from_slice(&words[..n]);
+    Ok(())
 }

@@ -5,17 +5,15 @@ ghost use Rattle.digits.specs.Putting.{Puts};
 ghost use Rattle.rules.specs.Pictures.{picture_of};
 
 // Writes the picture of these words to the start of a text, and gives how long it is.
+#[tactic(auto, using(rules::proofs::Pictures::picture_length_lem))]
 pub(crate) fn put_picture(words: &[u32], text: &mut [u8]) -> usize
     requires { (length words.now < four_digit_values) × (length (picture_of words.now) ≤ length text.old) }
     ensures { Puts 0 (picture_of words.now) text.old result text.new }
 {
-    let n = words.len();
-    let mut at = frames::put_line(text, 0, frames::SIZE_LINE, n as u32, &words[..0]);
-    let mut i = 0;
-    while i < n {
-        let end = i + layout::smaller(frames::FRAME_WORDS, n - i);
-        at = frames::put_line(text, at, frames::FRAME, i as u32, &words[i..end]);
-        i = end;
+    let mut at = frames::put_line(text, 0, frames::Kind::Size, words.len() as u32, &[]);
+    for (k, frame) in words.chunks(frames::FRAME_WORDS).enumerate() {
+        let first = k * frames::FRAME_WORDS;
+        at = frames::put_line(text, at, frames::Kind::Frame, first as u32, frame);
     }
     at
 }

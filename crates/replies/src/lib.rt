@@ -3,12 +3,14 @@
 
 mod reply;
 
-ghost use Rattle.requests.specs.declared.Request.TheVariants.{Start, Alloc, Free, Realloc, Report, Malformed};
+ghost use Rattle.std.specs.Prelude.{◌≡◌, ◌≤◌, length};
+ghost use Rattle.requests.specs.Requests.{kind_of};
+ghost use Rattle.requests.specs.declared.Request.TheVariants.{Start};
 ghost use Rattle.replies.specs.Boards.{lending, replied};
-ghost use Rattle.replies.specs.Answering.{Ready, Answers};
+ghost use Rattle.replies.specs.Answering.{Ready, Makes, Answers};
 
-use answers::Finish;
-use layout::{Reason, wide};
+use answers::Numbers;
+use layout::Reason;
 use requests::Request;
 
 // How many words are lent after a reply, and where it ends.
@@ -18,102 +20,86 @@ pub struct Said {
     pub end: usize,
 }
 
+// How many words are lent once a request's call is made, and what it answered.
+#[derive(Clone, Copy)]
+struct Made {
+    lent: usize,
+    numbers: Numbers,
+}
+
 // Answers a request; the reply is put at `at`.
 pub fn answer(request: Request, words: &mut [u32], lent: usize, out: &mut [u8], at: usize) -> Said
     requires { Ready words.old lent out.old at }
     ensures { Answers (replied request (lending words.old lent))
         words.new result.lent at out.old result.end out.new }
 {
+    let made = make(request, words, lent);
+    let end = reply::put_reply(out, at, kind(request), made.numbers);
+    Said {
+        lent: made.lent,
+        end,
+    }
+}
+
+// The number of a request's kind, which its reply repeats.
+fn kind(request: Request) -> u32
+    ensures { result ≡ kind_of request }
+{
     match request {
-        Request::Start(n) => start(wide(n), words, lent, out, at),
-        Request::Alloc(n) => Said {
+        Request::Start(_) => 1,
+        Request::Alloc(_) => 2,
+        Request::Free(_) => 3,
+        Request::Realloc(_, _) => 4,
+        Request::Report => 5,
+        Request::Malformed => 0,
+    }
+}
+
+// Makes a request's call on the lent words; a malformed line makes none.
+fn make(request: Request, words: &mut [u32], lent: usize) -> Made
+    requires { lent ≤ length words.old }
+    ensures { Makes request (lending words.old lent) words.new result.lent result.numbers }
+{
+    match request {
+        Request::Start(n) => start(n as usize, words, lent),
+        Request::Alloc(n) => Made {
             lent,
-            end: alloc(n, words, lent, out, at),
+            numbers: answers::in_numbers(arena::alloc(&mut words[..lent], n)),
         },
-        Request::Free(b) => Said {
+        Request::Free(b) => Made {
             lent,
-            end: free(b, words, lent, out, at),
+            numbers: answers::in_numbers(arena::free(&mut words[..lent], b)),
         },
-        Request::Realloc(b, n) => Said {
+        Request::Realloc(b, n) => Made {
             lent,
-            end: realloc(b, n, words, lent, out, at),
+            numbers: answers::in_numbers(arena::realloc(&mut words[..lent], b, n)),
         },
-        Request::Report => Said {
+        Request::Report => Made {
             lent,
-            end: report(words, lent, out, at),
+            numbers: answers::in_numbers(arena::report(&words[..lent])),
         },
-        Request::Malformed => Said {
+        Request::Malformed => Made {
             lent,
-            end: malformed(words, lent, out, at),
+            numbers: answers::refusal_numbers(0, Reason::Frame),
         },
     }
 }
 
 // A start lends the first `n` words; one that is refused changes nothing.
-fn start(n: usize, words: &mut [u32], lent: usize, out: &mut [u8], at: usize) -> Said
-    requires { Ready words.old lent out.old at }
-    ensures { Answers (replied (Start n) (lending words.old lent))
-        words.new result.lent at out.old result.end out.new }
+fn start(n: usize, words: &mut [u32], lent: usize) -> Made
+    requires { lent ≤ length words.old }
+    ensures { Makes (Start n) (lending words.old lent) words.new result.lent result.numbers }
 {
     if words.len() < n {
-        return Said {
+        return Made {
             lent,
-            end: reply::put_reply(out, at, 1, answers::refusal_numbers(0, Reason::Length)),
+            numbers: answers::refusal_numbers(0, Reason::Length),
         };
     }
     let finish = arena::start(&mut words[..n]);
-    let end = reply::put_reply(out, at, 1, answers::finish_numbers(finish));
-    if let Finish::Done = finish {
-        return Said { lent: n, end };
+    let numbers = answers::in_numbers(finish);
+    match finish {
+        Ok(()) => Made { lent: n, numbers },
+        Err(_) => Made { lent, numbers },
     }
-    Said { lent, end }
-}
-
-// An alloc on the lent words.
-fn alloc(n: u32, words: &mut [u32], lent: usize, out: &mut [u8], at: usize) -> usize
-    requires { Ready words.old lent out.old at }
-    ensures { Answers (replied (Alloc n) (lending words.old lent))
-        words.new lent at out.old result out.new }
-{
-    let granted = arena::alloc(&mut words[..lent], n);
-    reply::put_reply(out, at, 2, answers::granted_numbers(granted))
-}
-
-// A free on the lent words.
-fn free(b: u32, words: &mut [u32], lent: usize, out: &mut [u8], at: usize) -> usize
-    requires { Ready words.old lent out.old at }
-    ensures { Answers (replied (Free b) (lending words.old lent))
-        words.new lent at out.old result out.new }
-{
-    let finish = arena::free(&mut words[..lent], b);
-    reply::put_reply(out, at, 3, answers::finish_numbers(finish))
-}
-
-// A realloc on the lent words.
-fn realloc(b: u32, n: u32, words: &mut [u32], lent: usize, out: &mut [u8], at: usize) -> usize
-    requires { Ready words.old lent out.old at }
-    ensures { Answers (replied (Realloc b n) (lending words.old lent))
-        words.new lent at out.old result out.new }
-{
-    let granted = arena::realloc(&mut words[..lent], b, n);
-    reply::put_reply(out, at, 4, answers::granted_numbers(granted))
-}
-
-// A report on the lent words.
-fn report(words: &[u32], lent: usize, out: &mut [u8], at: usize) -> usize
-    requires { Ready words.now lent out.old at }
-    ensures { Answers (replied Report (lending words.now lent))
-        words.now lent at out.old result out.new }
-{
-    let counts = arena::report(&words[..lent]);
-    reply::put_reply(out, at, 5, answers::reported_numbers(counts))
-}
-
-// A malformed line makes no call; `words` and `lent` are there for the promise that they stay.
-fn malformed(words: &[u32], lent: usize, out: &mut [u8], at: usize) -> usize
-    requires { Ready words.now lent out.old at }
-    ensures { Answers (replied Malformed (lending words.now lent))
-        words.now lent at out.old result out.new }
-{
-    reply::put_reply(out, at, 0, answers::refusal_numbers(0, Reason::Frame))
 }

@@ -1,10 +1,9 @@
 // Request lines: the place in one that is not at its end yet, and what a line that ends there asks for.
 #![tactic(auto)]
 
-ghost use Rattle.std.specs.Prelude.{◌≡◌, cond, eqb};
-ghost use Rattle.requests.specs.LinePlaces.{at_start, request_at, one_field};
-ghost use Rattle.requests.specs.LinePlaces.{onward as onward_from, spoilt as spoilt_place};
-ghost use Rattle.requests.specs.declared.Request.TheVariants.{Realloc, Report, Malformed};
+ghost use Rattle.std.specs.Prelude.{◌≡◌};
+ghost use Rattle.requests.specs.LinePlaces.{at_start, request_at};
+ghost use Rattle.requests.specs.LinePlaces.{onward as onward_from};
 
 use digits::FOUR_DIGIT_VALUES;
 
@@ -19,12 +18,18 @@ const TWO_FIELDS: usize = ONE_FIELD + 4;
 const NINE_DIGIT_VALUES: u64 = FOUR_DIGIT_VALUES * FOUR_DIGIT_VALUES * 16;
 
 // How far an unfinished line has come: its digits are counted, and the number that they make is kept. A line that can
-// be no request any more has a digit too many.
+// be no request any more has a digit too many: no variant of its own, since a caller may hand in any place.
 #[derive(Clone, Copy)]
 pub struct Place {
     pub digits: usize,
     pub number: u64,
 }
+
+// A line that can be no request any more.
+const SPOILT: Place = Place {
+    digits: TWO_FIELDS + 1,
+    number: 0,
+};
 
 // A line's request.
 #[derive(Clone, Copy)]
@@ -47,85 +52,39 @@ pub fn at_start() -> Place
     }
 }
 
-// A line that can be no request any more.
-fn spoilt() -> Place
-    ensures { result ≡ spoilt_place }
-{
-    Place {
-        digits: TWO_FIELDS + 1,
-        number: 0,
-    }
-}
-
 // The place after one more byte of the line.
-#[tactic(auto, unfolding(crate::specs::LinePlaces::onward))]
+#[tactic(auto, unfolding(crate::specs::LinePlaces::onward), using(std::proofs::lemmas::Bool::Decides::nat_tests))]
 pub fn onward(place: Place, b: u8) -> Place
     ensures { result ≡ onward_from place b }
 {
-    let worth = digits::worth(b);
-    if 16 <= worth {
-        return spoilt();
-    }
-    if TWO_FIELDS <= place.digits {
-        return spoilt();
-    }
-    Place {
-        digits: place.digits + 1,
-        number: (place.number % NINE_DIGIT_VALUES) * 16 + worth,
+    match digits::worth(b) {
+        worth @ 0..=15 if place.digits < TWO_FIELDS => Place {
+            digits: place.digits + 1,
+            number: (place.number % NINE_DIGIT_VALUES) * 16 + worth,
+        },
+        _ => SPOILT,
     }
 }
 
-// The request of a line that ends here.
-#[tactic(auto, unfolding(crate::specs::LinePlaces::request_at))]
+// The request of a line that ends here: its kind stands before its fields, of which it has none, one or two.
+#[tactic(auto, unfolding(crate::specs::LinePlaces::request_at), using(std::proofs::lemmas::Bool::Decides::nat_tests))]
 pub fn request_at(place: Place) -> Request
     ensures { result ≡ request_at place }
 {
     let rest = place.number / FOUR_DIGIT_VALUES;
     let last = (place.number % FOUR_DIGIT_VALUES) as u32;
-    if place.digits == ONE_FIELD {
-        return one_field(rest, last);
-    }
-    if place.digits == TWO_FIELDS {
-        return two_fields(
-            rest / FOUR_DIGIT_VALUES,
-            (rest % FOUR_DIGIT_VALUES) as u32,
-            last,
-        );
-    }
-    if place.digits == NO_FIELD {
-        return no_field(place.number);
-    }
-    Request::Malformed
-}
-
-// The request of a line with one field.
-fn one_field(kind: u64, n: u32) -> Request
-    ensures { result ≡ one_field kind n }
-{
-    match kind {
-        1 => Request::Start(n),
-        2 => Request::Alloc(n),
-        3 => Request::Free(n),
+    let first = (rest % FOUR_DIGIT_VALUES) as u32;
+    let kind = match place.digits {
+        NO_FIELD => place.number,
+        ONE_FIELD => rest,
+        _ => rest / FOUR_DIGIT_VALUES,
+    };
+    match (place.digits, kind) {
+        (ONE_FIELD, 1) => Request::Start(last),
+        (ONE_FIELD, 2) => Request::Alloc(last),
+        (ONE_FIELD, 3) => Request::Free(last),
+        (TWO_FIELDS, 4) => Request::Realloc(first, last),
+        (NO_FIELD, 5) => Request::Report,
         _ => Request::Malformed,
     }
-}
-
-// The request of a line with two fields.
-fn two_fields(kind: u64, b: u32, n: u32) -> Request
-    ensures { result ≡ cond (eqb kind 4) (Realloc b n) Malformed }
-{
-    if kind == 4 {
-        return Request::Realloc(b, n);
-    }
-    Request::Malformed
-}
-
-// The request of a line without fields.
-fn no_field(kind: u64) -> Request
-    ensures { result ≡ cond (eqb kind 5) Report Malformed }
-{
-    if kind == 5 {
-        return Request::Report;
-    }
-    Request::Malformed
 }

@@ -1,11 +1,12 @@
 -- A list that a loop fills from the front.
-use Prim.Native.Nat.{ℕ, ◌+◌, ◌≤◌, ◌<◌}
-use mathlib.Core.Path.{◌≡◌, refl, sym, ◌∙◌}
-use mathlib.Core.List.{List, [], ◌∷◌, ◌++◌, append_assoc, append-nil}
-use native.Mathlib.Numerals.{add-one}
+use Prim.Native.Nat.{ℕ, ◌+◌, ◌-◌, ◌≤◌}
+use mathlib.Core.Path.{◌≡◌, sym, ◌∙◌}
+use mathlib.Core.List.{List, [], ◌++◌, append_assoc, append-nil}
 use native.Mathlib.Omega.{arith}
-use lib.ListN.{length, get_or, take, drop, set, length-append}
-use lib.Seq.{sets, sets-eq, length-sets, take_at, take_all, length-take-le, drop-cons}
+use lib.ListN.{length, take, length-append}
+use lib.Seq.{sets, sets-eq, length-sets, take_at, take_all, length-take-le}
+use borrow.Rule.Slice.PartMut.{put_mid, mid_of, mid_len, same_len_mid}
+use Rattle.std.proofs.lemmas.Slice.{take-put_mid}
 
 -- the list `l`, once `l₀`: its first `at` elements, and `rest`, which is still to be stored, make the whole that it is
 -- to become
@@ -29,8 +30,12 @@ filled_up {rest} {whole} l₀ l at e f =
 pub filled : {rest whole : List ℕ} (l₀ l : List ℕ) (at : ℕ) → length l₀ ≤ at → rest ≡ [] → Filling l₀ l at rest whole → l ≡ whole
 filled l₀ l at h e f = sym (take_all at l (omega arith)) ∙ filled_up l₀ l at e f
 
--- one element more of a list that is there already
-pub copied_on : (l₀ l whole : List ℕ) (i v : ℕ) → length whole ≤ length l₀ → i < length whole → get_or whole i 0 ≡ v
-    → Filling l₀ l i (drop i whole) whole → Filling l₀ (set l i v) (i + 1) (drop (i + 1) whole) whole
-copied_on l₀ l whole i v long h e =
-    filled_on l₀ l i (i + 1) (v ∷ []) (drop (i + 1) whole) refl (omega arith) (rw (add-one, ← e) (drop-cons whole i 0 h))
+-- the next elements, `vs`, are copied to their place
+pub copied_on : {left whole : List ℕ} (l₀ l : List ℕ) (at end next : ℕ) (vs rest : List ℕ) → at + length vs ≡ end → next ≡ end
+    → next ≤ length l₀ → left ≡ vs ++ rest → Filling l₀ l at left whole → Filling l₀ (put_mid at (end - at) l vs) next rest whole
+copied_on l₀ l at end next vs rest n h fits e f =
+    let part : length (mid_of at (end - at) l) ≡ end - at = mid_len at end l (omega arith) in
+    let kept : length (put_mid at (end - at) l vs) ≡ length l = same_len_mid at (end - at) l vs (omega arith) in
+    let front : take next (put_mid at (end - at) l vs) ≡ take at l ++ vs =
+    take-put_mid at (end - at) l vs next (omega arith) (omega arith) in
+    (fits, kept ∙ f.1, rw (front, append_assoc, ← e) f.2)

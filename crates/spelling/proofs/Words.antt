@@ -1,30 +1,45 @@
 -- Words and bytes: what stands in front of the next ones, and that one undoes the other.
-use Prim.Native.Nat.{ℕ, suc, ◌+◌, ◌*◌, ◌/◌, ◌%◌, ◌<◌, ◌≤◌}
-use mathlib.Core.Path.{◌≡◌, refl, ap₂}
+use Prim.Native.Nat.{ℕ, zero, suc, ◌+◌, ◌*◌, ◌/◌, ◌%◌, ◌<◌, ◌≤◌}
+use mathlib.Core.Path.{◌≡◌, refl, ◌∙◌, ap, ap₂}
 use mathlib.Core.List.{List, [], ◌∷◌, ◌++◌}
 use native.Mathlib.Nat.{div-div-eq-div-mul}
 use native.Mathlib.Omega.{arith}
-use native.Mathlib.Numerals.{add-one, towards_suc}
-use lib.ListN.{length, get_or, drop, drop_of_length-le}
-use lib.Seq.{drop-cons}
+use native.Mathlib.Numerals.{add-one, towards_suc, unary_clauses}
+use lib.ListN.{length, get_or, take, drop, drop_of_length-le}
+use lib.Seq.{drop-cons, drop-drop}
+use Rattle.std.specs.Int.{w32, from_le_bytes}
+use Rattle.std.specs.Simd.{first_chunks}
 use Rattle.layout.specs.Bounds.{AllBelow}
 use Rattle.layout.specs.Numbers.{word_values}
 use Rattle.spelling.specs.Words.{word_of, four_of, words_of, bytes_of}
 
+-- chunk `i` of a list: its elements from `n * i` on
+chunk_at : (n k i : ℕ) (xs : List ℕ) → i < k → get_or (first_chunks n k xs) i [] ≡ take n (drop (n * i) xs)
+chunk_at n zero i xs h = absurd (omega arith)
+chunk_at n (suc k) zero xs h = simp unary_clauses refl
+chunk_at n (suc k) (suc i) xs h =
+    let at : n + n * i ≡ n * suc i = omega arith in
+    chunk_at n k i (drop n xs) (omega arith) ∙ ap (take n) (drop-drop (n * i) n xs ∙ ap (λ (m : ℕ). drop m xs) at)
+
 -- the first four of the bytes from `at` on spell a word
-pub words_next : (bs : List ℕ) (at next : ℕ) → next ≡ at + 4 → at + 3 < length bs
-    → words_of (drop at bs) ≡ (word_of (get_or bs at 0) (get_or bs (at + 1) 0) (get_or bs (at + 2) 0) (get_or bs (at + 3) 0) ∷ []) ++ words_of (drop next bs)
+words_front : (bs : List ℕ) (at : ℕ) → at + 3 < length bs
+    → words_of (drop at bs) ≡ (from_le_bytes w32 (take 4 (drop at bs)) ∷ []) ++ words_of (drop (at + 4) bs)
 unfolding words_of
-words_next bs at next n h =
+words_front bs at h =
     rw (
-      n,
       drop-cons bs at 0 (omega arith),
       drop-cons bs (suc at) 0 (omega arith),
       drop-cons bs (suc (suc at)) 0 (omega arith),
       drop-cons bs
           (suc (suc (suc at))) 0 (omega arith),
     )
-    (simp towards_suc)
+    (simp towards_suc (ap₂ ◌∷◌ (omega arith) refl))
+
+-- the word `w` that chunk `i` of the bytes spells comes before those of the bytes behind it
+pub words_next : (bs : List ℕ) (fours : List (List ℕ)) (i next w : ℕ) → fours ≡ first_chunks 4 (length bs / 4) bs
+    → w ≡ from_le_bytes w32 (get_or fours i []) → i < length bs / 4 → next ≡ 4 * i + 4
+    → words_of (drop (4 * i) bs) ≡ (w ∷ []) ++ words_of (drop next bs)
+words_next bs fours i next w f e h n = rw (n, e, f, chunk_at 4 (length bs / 4) i bs h) (words_front bs (4 * i) (omega arith))
 
 -- the first of the words from `i` on is spelled by four bytes
 pub bytes_next : (ws : List ℕ) (i : ℕ) → i < length ws → bytes_of (drop i ws) ≡ four_of (get_or ws i 0) ++ bytes_of (drop (i + 1) ws)

@@ -65,8 +65,8 @@ link_at_last base c (live s asked ∷ front) u d e = link_at_last base (c + s) f
 
 -- ---- the stores: the room of the chunk becomes free, together with a free chunk that ends where it starts
 
-module _ (a : List ℕ) (pre : List Chunk) (s asked : ℕ) (post : List Chunk) (link chunk : ℕ) (st : Placed a pre (live s asked) post link chunk)
-    (room : Room) (has : HasRoom s post chunk room) where
+module _ {a : List ℕ} {pre : List Chunk} {s asked : ℕ} {post : List Chunk} {link chunk : ℕ} (st : Placed a pre (live s asked) post link chunk)
+    {room : Room} (has : HasRoom s post chunk room) where
   -- the chunks from the freed one on
   freed_joins : joined (free s ∷ post) ≡ free room.words ∷ room_after post
   unfolding joined
@@ -93,10 +93,10 @@ module _ (a : List ℕ) (pre : List Chunk) (s asked : ℕ) (post : List Chunk) (
   unfolding write room_written
   alone_stores q =
       let r = reads a pre (live s asked) post link chunk st in
-      let b = bounds a pre s asked post link chunk st room has in
+      let b = bounds st has in
       let e : joined (pre ++ free s ∷ post) ≡ pre ++ free room.words ∷ room_after post =
       joined_front false pre (free s ∷ post) (spaced_left false pre (live s asked ∷ post) r.arena.law.spaced) q ∙ ap (◌++◌ pre) freed_joins in
-      rw e (sym (become a pre s asked post link chunk st room has (free room.words ∷ []) (b.even, omega arith, tt) (omega arith)))
+      rw e (sym (become st has (free room.words ∷ []) (b.even, omega arith, tt) (omega arith)))
 
   -- a free chunk of `u` words stands before it, at word `left`
   module _ (front : List Chunk) (u left : ℕ) (is : pre ≡ front ++ free u ∷ []) (at : left ≡ first_chunk + total front) where
@@ -123,7 +123,7 @@ module _ (a : List ℕ) (pre : List Chunk) (s asked : ℕ) (post : List Chunk) (
     left_stores q p =
         let (l, c, t) = left_stands in
         let r = reads a front (free u) (live s asked ∷ post) _ left t in
-        let b = bounds a pre s asked post link chunk st room has in
+        let b = bounds st has in
         let w : link - 1 ≡ left = omega arith in
         let v : chunk - left ≡ u = omega arith in
         let e : joined (pre ++ free s ∷ post) ≡ front ++ free (u + room.words) ∷ room_after post =

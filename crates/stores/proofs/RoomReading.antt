@@ -63,7 +63,7 @@ pub record Around (a : List ℕ) (link chunk : ℕ) : Type 0 where
   pub next_room : get_or a link 0 ≡ chunk + get_or a chunk 0
       → (least_size ≤ get_or a (get_or a link 0) 0) × (get_or a link 0 + get_or a (get_or a link 0) 0 ≤ length a)
 
-module _ (a : List ℕ) (pre : List Chunk) (s asked : ℕ) (post : List Chunk) (link chunk : ℕ) (st : Placed a pre (live s asked) post link chunk) where
+module _ {a : List ℕ} {pre : List Chunk} {s asked : ℕ} {post : List Chunk} {link chunk : ℕ} (st : Placed a pre (live s asked) post link chunk) where
   pub room_beside : get_or a link 0 ≡ chunk + get_or a chunk 0 → NextJoins a s post chunk (get_or a chunk 0) (get_or a link 0)
   room_beside b =
       let r = reads a pre (live s asked) post link chunk st in
@@ -85,7 +85,7 @@ around a link chunk (pre, s, asked, post, st) =
       inside = omega arith;
       most = r.most;
       next_inside = omega (arith, r.names);
-      next_room = λ b. let x = room_beside a pre s asked post link chunk st b in (x.0, x.1);
+      next_room = λ b. let x = room_beside st b in (x.0, x.1);
     }
 
 -- ---- the stores
@@ -97,8 +97,8 @@ pub record Bounds (a : List ℕ) (s : ℕ) (post : List Chunk) (chunk : ℕ) (ro
   pub fits : chunk + room.words + total (room_after post) ≡ length a
   pub next_fits : room.next ≤ length a
 
-module _ (a : List ℕ) (pre : List Chunk) (s asked : ℕ) (post : List Chunk) (link chunk : ℕ) (st : Placed a pre (live s asked) post link chunk)
-    (room : Room) (has : HasRoom s post chunk room) where
+module _ {a : List ℕ} {pre : List Chunk} {s asked : ℕ} {post : List Chunk} {link chunk : ℕ} (st : Placed a pre (live s asked) post link chunk)
+    {room : Room} (has : HasRoom s post chunk room) where
   pub bounds : Bounds a s post chunk room
   bounds =
       let r = reads a pre (live s asked) post link chunk st in

@@ -1,5 +1,5 @@
 -- A need is taken from a free chunk: what is read of the chunk, and the stores that take the need.
-use mathlib.Core.Path.{◌≡◌, refl, sym}
+use mathlib.Core.Path.{refl, sym}
 use mathlib.Core.List.{List, [], ◌∷◌}
 use Prim.Native.Nat.{ℕ, ◌+◌, ◌-◌, ◌≤◌, ◌<◌}
 use native.Mathlib.Omega.{arith}
@@ -43,7 +43,7 @@ gap a link chunk need w (pre, s, post, st, fits, m) =
 
 -- ---- the stores
 
-module _ (a : List ℕ) (pre : List Chunk) (s : ℕ) (post : List Chunk) (link chunk need w : ℕ) (st : Placed a pre (free s) post link chunk) where
+module _ {a : List ℕ} {pre : List Chunk} {s : ℕ} {post : List Chunk} {link chunk : ℕ} (need w : ℕ) (st : Placed a pre (free s) post link chunk) where
   -- too few words would be over: the chunk is taken whole
   pub took_whole : get_or a chunk 0 - need < least_split
       → Took a pre s post need w (record { chunk = chunk; words = get_or a chunk 0 })

@@ -1,53 +1,31 @@
 -- The code and the fields that go into a lent array are together the answer.
-use Prim.Native.Nat.{ℕ}
-use mathlib.Core.Path.{◌≡◌, refl, sym, ap, ◌∙◌}
-use mathlib.Core.List.{List, [], ◌∷◌}
-use lib.ListN.{get_or}
+use Prim.Native.Nat.{ℕ, ◌≤◌}
+use mathlib.Core.Path.{◌≡◌, sym, ap, ◌∙◌}
+use mathlib.Core.List.{List}
+use native.Mathlib.Omega.{arith}
+use lib.ListN.{take}
+use Rattle.layout.specs.declared.Reason.{Reason}
 use Rattle.rules.specs.Answers.{Answer, Outcome}
 use Rattle.rules.specs.Calls.{alloc_next_on, Roves, write_on}
-use Rattle.answers.specs.Readings.{finish_numbers, granted_numbers, sized_numbers, reported_numbers, written_numbers}
-use Rattle.answers.specs.Padded.{padded}
+use Rattle.answers.specs.Readings.{read}
+use Rattle.answers.specs.Padded.{four, padded}
 use Rattle.answers.specs.Determined.{Determined}
-use Rattle.answers.specs.declared.Finish.{Finish}
-use Rattle.answers.specs.declared.Finish.TheVariants.{Done, Refused as NotDone}
-use Rattle.answers.specs.declared.Granted.{Granted}
-use Rattle.answers.specs.declared.Granted.TheVariants.{Block, Refused as NotGranted}
-use Rattle.answers.specs.declared.Sized.{Sized}
-use Rattle.answers.specs.declared.Sized.TheVariants.{Words, Refused as NotSized}
-use Rattle.answers.specs.declared.Reported.{Reported}
-use Rattle.answers.specs.declared.Reported.TheVariants.{Counts, Refused as NotReported}
-use Rattle.answers.specs.declared.Written.{Written}
-use Rattle.answers.specs.declared.Written.TheVariants.{Bytes, Refused as NotWritten}
+use Rattle.answers.specs.FieldLaws.{FieldLaws}
+use Rattle.answers.proofs.Padded.{padded_told, read_count}
 use Rattle.picture.specs.Writing.{Writes}
 use Rattle.picture.proofs.Promised.{writes_determined}
+use Rattle.std.specs.Prelude.{Result}
 use Rattle.telling.specs.Returned.{returned}
 
 -- ---- the answers, by their numbers
 
-pub finish_returned : (r : Finish) → returned (padded (finish_numbers r)).code [] ≡ finish_numbers r
-finish_returned Done = refl
-finish_returned (NotDone why) = refl
-
-pub granted_returned : (r : Granted)
-    → let x = padded (granted_numbers r) in returned x.code (get_or x.fields 0 0 ∷ get_or x.fields 1 0 ∷ []) ≡ granted_numbers r
-granted_returned (Block block granted) = refl
-granted_returned (NotGranted why) = refl
-
-pub sized_returned : (r : Sized)
-    → let x = padded (sized_numbers r) in returned x.code (get_or x.fields 0 0 ∷ get_or x.fields 1 0 ∷ []) ≡ sized_numbers r
-sized_returned (Words asked granted) = refl
-sized_returned (NotSized why) = refl
-
-pub reported_returned : (r : Reported)
-    → let x = padded (reported_numbers r) in
-    returned x.code (get_or x.fields 0 0 ∷ get_or x.fields 1 0 ∷ get_or x.fields 2 0 ∷ get_or x.fields 3 0 ∷ []) ≡ reported_numbers r
-reported_returned (Counts free_words largest live_blocks free_chunks) = refl
-reported_returned (NotReported why) = refl
-
-pub written_returned : (r : Written)
-    → let x = padded (written_numbers r) in returned x.code (get_or x.fields 0 0 ∷ []) ≡ written_numbers r
-written_returned (Bytes bytes) = refl
-written_returned (NotWritten why) = refl
+-- the code and the first of the four are the answer
+pub told : {A : Type 0} {values : A → List ℕ} {count : ℕ} → FieldLaws values count → count ≤ 4 → (answer : Result A Reason)
+    → let x = padded (read values count answer) in returned x.code (take count x.fields) ≡ read values count answer
+told {values = values} {count} laws few answer =
+    let is = read values count answer in
+    let long = read_count laws answer in
+    ap (λ (n : ℕ). returned is.code (take n (four is.values))) (sym long) ∙ padded_told is (omega (arith, few, long))
 
 -- ---- a contract leaves no choice
 

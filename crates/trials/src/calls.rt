@@ -11,13 +11,12 @@ use layout::Reason;
 fn roved_numbers(roved: Roved) -> Numbers
     ensures { result ≡ padded (with_rover (granted_numbers roved.granted) roved.rover) }
 {
-    let granted = roved.granted;
-    let numbers = answers::granted_numbers(granted);
-    let fields = numbers.fields;
+    let numbers = answers::in_numbers(roved.granted);
+    let [block, granted, ..] = numbers.fields;
     Numbers {
-        code: numbers.code,
         count: 3,
-        fields: [fields[0], fields[1], roved.rover, 0],
+        fields: [block, granted, roved.rover, 0],
+        ..numbers
     }
 }
 
@@ -28,15 +27,15 @@ pub(crate) fn answer(call: u32, b: u32, n: u32, a: &mut [u32]) -> Numbers
     ensures { Settles (outcome_of call b n a.old) result a.new }
 {
     match call {
-        1 => answers::finish_numbers(arena::start(a)),
-        2 => answers::granted_numbers(arena::alloc(a, n)),
-        3 => answers::finish_numbers(arena::free(a, b)),
-        4 => answers::granted_numbers(arena::realloc(a, b, n)),
-        5 => answers::reported_numbers(arena::report(a)),
-        6 => answers::sized_numbers(arena::size(a, b)),
-        9 => answers::granted_numbers(arena::resize(a, b, n)),
-        10 => answers::granted_numbers(arena::relocate(a, b, n)),
-        11 => answers::granted_numbers(arena::alloc_best(a, n)),
+        1 => answers::in_numbers(arena::start(a)),
+        2 => answers::in_numbers(arena::alloc(a, n)),
+        3 => answers::in_numbers(arena::free(a, b)),
+        4 => answers::in_numbers(arena::realloc(a, b, n)),
+        5 => answers::in_numbers(arena::report(a)),
+        6 => answers::in_numbers(arena::size(a, b)),
+        9 => answers::in_numbers(arena::resize(a, b, n)),
+        10 => answers::in_numbers(arena::relocate(a, b, n)),
+        11 => answers::in_numbers(arena::alloc_best(a, n)),
         12 => roved_numbers(arena::alloc_next(a, b, n)),
         _ => answers::refusal_numbers(0, Reason::Frame),
     }

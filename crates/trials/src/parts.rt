@@ -1,19 +1,8 @@
 // The part of an arena that a view hands back.
-ghost use Rattle.std.specs.Prelude.{◌≡◌, ◌≤◌, length, replicate};
+ghost use Rattle.std.specs.Prelude.{◌≤◌, length};
 ghost use Rattle.rules.specs.Calls.{view_on};
 ghost use Rattle.spelling.specs.Copies.{Begins};
 ghost use Rattle.trials.specs.Trials.{Overwrites};
-
-// Makes every word of `part` the word `n`.
-fn fill(part: &mut [u32], n: u32)
-    ensures { part.new ≡ replicate (length part.old) n }
-{
-    let mut i = 0;
-    while i < part.len() {
-        part[i] = n;
-        i += 1;
-    }
-}
 
 // Copies the view of block `b` to the start of `part`, and answers how many words it has.
 pub(crate) fn look(a: &[u32], b: u32, part: &mut [u32]) -> usize
@@ -32,6 +21,6 @@ pub(crate) fn overwrite(a: &mut [u32], b: u32, n: u32, part: &mut [u32]) -> usiz
 {
     let block = arena::view_mut(a, b);
     let count = spelling::copy(block, part);
-    fill(block, n);
+    block.fill(n);
     count
 }

@@ -4,7 +4,7 @@ ghost use Rattle.layout.specs.Numbers.{word_values};
 ghost use Rattle.trials.specs.Trials.{numbers_of, Replies};
 
 use super::{calls, parts};
-use answers::{Finish, Numbers};
+use answers::Numbers;
 
 // What is replied to a trial, but for the words: the answer, and how many words were handed back.
 #[derive(Clone, Copy)]
@@ -37,11 +37,11 @@ pub fn reply_to(call: u32, b: u32, n: u32, a: &mut [u32], part: &mut [u32]) -> R
 {
     match call {
         7 => Reply {
-            answered: answers::finish_numbers(Finish::Done),
+            answered: answers::in_numbers(Ok(())),
             count: parts::look(a, b, part),
         },
         8 => Reply {
-            answered: answers::finish_numbers(Finish::Done),
+            answered: answers::in_numbers(Ok(())),
             count: parts::overwrite(a, b, n, part),
         },
         _ => Reply {

@@ -3,8 +3,8 @@ use mathlib.Core.Path.{◌≡◌, refl, ◌∙◌}
 use mathlib.Core.List.{List}
 use Prim.Native.Nat.{ℕ}
 use native.Mathlib.Omega.{arith}
-use Rattle.std.specs.Prelude.{Option, None, Some}
-use Rattle.rules.specs.Rules.{Way, shut, grants, or_else, regranted, resized, relocated}
+use Rattle.std.specs.Prelude.{Option, None}
+use Rattle.rules.specs.Rules.{Way, shut, grants, regranted, resized, relocated}
 use Rattle.rules.proofs.ThreeWays.{else_moves}
 use Rattle.passes.specs.Places.{LiveAt}
 use Rattle.ways.specs.Ways.{Follows, FollowsAt}
@@ -23,21 +23,7 @@ shut_followed {way} {a} {after} f = go way f
     go shut f = (refl, f.leaves)
     go (grants block granted words) f = absurd (let e = f.answers in let z : ◌≡◌ {A = ℕ} 0 1 = cc in omega arith)
 
--- where a way grants, no other is asked
-open_followed : {way : Way} {a after : List ℕ} {g : Grant} (other : Way) → Follows way a (Some g) after
-    → Follows (or_else way other) a (Some g) after
-open_followed {way} {a} {after} {g} other f = go way f
-  where
-    go : (way : Way) → Follows way a (Some g) after → Follows (or_else way other) a (Some g) after
-    go shut f = absurd (let e = f.answers in let z : ◌≡◌ {A = ℕ} 0 1 = cc in omega arith)
-    go (grants block' granted' words) f = f
-
 module _ {a : List ℕ} {link chunk : ℕ} (need w : ℕ) where
-  -- the block stays
-  pub regrants_here : {g : Grant} {after : List ℕ} → FollowsAt resized a link chunk need w (Some g) after
-      → FollowsAt regranted a link chunk need w (Some g) after
-  regrants_here f pre s asked post st = open_followed _ (f pre s asked post st)
-
   -- it cannot stay, and so nothing has changed
   pub cannot_stay : {kept : List ℕ} → LiveAt a link chunk → FollowsAt resized a link chunk need w None kept → kept ≡ a
   cannot_stay (pre, s, asked, post, st) f = (shut_followed (f pre s asked post st)).1

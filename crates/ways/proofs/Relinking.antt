@@ -10,14 +10,14 @@ use lib.ListN.{length}
 use borrow.Author.Tests.{eq-eqb, ne_eqb}
 use Rattle.std.specs.Prelude.{Some}
 use Rattle.layout.specs.Numbers.{first_chunk, list_word, header_words, least_size}
-use Rattle.layout.specs.Chunks.{Chunk, free, live, total, written}
+use Rattle.layout.specs.Chunks.{Chunk, free, live, total}
 use Rattle.layout.specs.Walk.{chunks_of}
 use Rattle.layout.specs.Links.{link_at}
 use Rattle.layout.proofs.Holds.{total_append}
 use Rattle.layout.proofs.Written.{length_written}
 use Rattle.rules.specs.Spots.{at}
 use Rattle.rules.specs.Fits.{first_fit_policy}
-use Rattle.rules.specs.Rules.{taken, cut, copied, relocated, released}
+use Rattle.rules.specs.Rules.{taken, cut, copied, relocated}
 use Rattle.rules.specs.Rooms.{Needed}
 use Rattle.rules.proofs.Remainder.{Remainder, split, whole, remainder, cut_numbers}
 use Rattle.rules.proofs.OldBlock.{Order, gap_above, gap_below, order, old_before, old_after, old_stands, moved_sound, moved_chunks}
@@ -86,9 +86,9 @@ kept_link link gap_link gap made l = rw (ne_eqb (gap + 1) link (omega arith)) (g
 
 -- ---- the block and the gap, where each stands
 
-module _ (a : List ℕ) (pre : List Chunk) (s asked : ℕ) (post : List Chunk) (link chunk : ℕ) (st : Placed a pre (live s asked) post link chunk)
-    (before : List Chunk) (g : ℕ) (after : List Chunk) (gap_link gap : ℕ) (sg : Placed a before (free g) after gap_link gap)
-    (need w : ℕ) (n : Needed need w) (fits : need ≤ g) where
+module _ {a : List ℕ} {pre : List Chunk} {s asked : ℕ} {post : List Chunk} {link chunk : ℕ} (st : Placed a pre (live s asked) post link chunk)
+    {before : List Chunk} {g : ℕ} {after : List Chunk} {gap_link gap : ℕ} (sg : Placed a before (free g) after gap_link gap)
+    {need w : ℕ} (n : Needed need w) (fits : need ≤ g) where
   -- which of them comes first
   abbrev pub first : Order pre s asked post before g after
   first = order pre s asked post before g after (sym st.stands.same ∙ sg.stands.same)
@@ -117,7 +117,7 @@ module _ (a : List ℕ) (pre : List Chunk) (s asked : ℕ) (post : List Chunk) (
       ∙ sym (link_at_append list_word first_chunk before (cut need w g ++ mid) gap r.at_is)
 
   -- `piece` was taken, and `granted` are the words then; as many words are copied as the shorter of the two blocks has
-  module _ (piece : Piece) (granted : List ℕ) (t : Took a before g after need w piece granted) (count : ℕ)
+  module _ {piece : Piece} {granted : List ℕ} (t : Took a before g after need w piece granted) {count : ℕ}
       (shorter : count ≡ min (s - header_words) (taken need g - header_words)) where
     room : count ≤ taken need g - header_words
     room = omega arith

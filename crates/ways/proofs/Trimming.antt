@@ -2,7 +2,7 @@
 -- ways 1 and 2.
 use mathlib.Core.Path.{◌≡◌, refl, sym}
 use mathlib.Core.List.{List, ◌∷◌}
-use Prim.Native.Nat.{ℕ, ◌+◌, ◌-◌, ◌≤◌, ◌<◌}
+use Prim.Native.Nat.{ℕ, ◌+◌, ◌≤◌, ◌<◌}
 use native.Mathlib.Omega.{arith}
 use lib.ListN.{length}
 use borrow.Author.Tests.{le-leb, lt-leb}
@@ -21,19 +21,19 @@ use Rattle.stores.proofs.RoomReading.{bounds, become}
 use Rattle.ways.specs.Ways.{Follows, way_by, grant_of}
 use Rattle.ways.specs.Trims.{RoomFor}
 
-module _ (a : List ℕ) (pre : List Chunk) (s asked : ℕ) (post : List Chunk) (link chunk : ℕ) (st : Placed a pre (live s asked) post link chunk)
-    (room : Room) (has : HasRoom s post chunk room) (need w : ℕ) where
+module _ {a : List ℕ} {pre : List Chunk} {s asked : ℕ} {post : List Chunk} {link chunk : ℕ} (st : Placed a pre (live s asked) post link chunk)
+    {room : Room} (has : HasRoom s post chunk room) (need w : ℕ) where
   sized : Sizes (live s asked ∷ post)
   sized = let r = reads a pre (live s asked) post link chunk st in (r.even, r.least, r.sizes_after)
 
   -- its room has the need, and it keeps so many words
-  module _ (n : Needed need w) (enough : need ≤ room.words) (keep : ℕ) (is : keep ≡ kept_of need s room.words) where
+  module _ (n : Needed need w) (enough : need ≤ room.words) {keep : ℕ} (is : keep ≡ kept_of need s room.words) where
     kept : KeepsOfRoom need s post keep
     kept = rw (is, has.words_are) (keeps_of_room need s post sized.2 (omega (arith, has.words_are)))
 
     pub room_for : RoomFor (length a) link chunk keep w room
     room_for =
-        let b = bounds a pre s asked post link chunk st room has in
+        let b = bounds st has in
         let r = reads a pre (live s asked) post link chunk st in
         let k = kept_numbers need s keep post kept in
         record {
@@ -54,7 +54,7 @@ module _ (a : List ℕ) (pre : List Chunk) (s asked : ℕ) (post : List Chunk) (
         (record {
           answers = refl;
           leaves = sym
-              (become a pre s asked post link chunk st room has (trim keep w room.words) (rw has.words_are z.0) (rw has.words_are z.1));
+              (become st has (trim keep w room.words) (rw has.words_are z.0) (rw has.words_are z.1));
         })
 
   -- its room lacks the need

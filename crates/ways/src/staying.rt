@@ -28,8 +28,8 @@ fn kept_words(need: usize, size: usize, words: usize) -> usize
     need
 }
 
-// The chunk at a place keeps the first `keep` words of its room, where `asked` words are asked for; those over, if there
-// are any, become a free chunk.
+// The chunk at a place keeps the first `keep` words of its room, where `asked` words are asked for; those over, if
+// there are any, become a free chunk.
 #[tactic(auto, unfolding(stores::specs::RoomAt::room_written, layout::specs::Chunks::write))]
 fn trim(a: &mut [u32], place: Place, keep: usize, asked: u32, room: Room)
     requires { RoomFor (length a.old) place.link place.chunk keep asked room }

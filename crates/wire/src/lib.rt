@@ -1,35 +1,45 @@
 // Words from a reader and to a writer, as bytes, for the programs that the tests run.
 #![tactic(auto)]
 
-ghost use Rattle.std.specs.Prelude.{◌*◌, ◌≤◌, length, IsTrue};
+ghost use Rattle.std.specs.Prelude.{◌*◌, ◌≤◌, length, OnOk};
 ghost use Rattle.std.specs.Io.KnownBytes.{Appends, Consumes};
 ghost use Rattle.spelling.specs.Words.{bytes_of};
 
+use std::io;
 use std::io::{Read, Write};
 
-// Reads as many words as `words` has, by way of `bytes`; false where the input is cut short.
-pub fn read_words<R: Read>(input: &mut R, words: &mut [u32], bytes: &mut [u8]) -> bool
+// Reads as many words as `words` has, by way of `bytes`; an error where the input is cut short.
+pub fn read_words<R: Read>(input: &mut R, words: &mut [u32], bytes: &mut [u8]) -> io::Result<()>
     requires { 4 * length words.old ≤ length bytes.old }
-    ensures { IsTrue result → Consumes (R.remaining input.old) (R.remaining input.new)
-        (bytes_of words.new) }
+    ensures { OnOk result (Consumes (R.remaining input.old) (R.remaining input.new)
+        (bytes_of words.new)) }
 {
     let count = 4 * words.len();
     let spelled = &mut bytes[..count];
-    if input.read_exact(spelled).is_err() {
-        return false;
-    }
+    input.read_exact(spelled)?;
     spelling::load(spelled, words);
-    true
+    Ok(())
 }
 
-// Writes the words, by way of `bytes`; false where they cannot be written.
-pub fn write_words<W: Write>(output: &mut W, words: &[u32], bytes: &mut [u8]) -> bool
+// Writes the words, by way of `bytes`; an error where they cannot be written.
+pub fn write_words<W: Write>(output: &mut W, words: &[u32], bytes: &mut [u8]) -> io::Result<()>
     requires { 4 * length words.now ≤ length bytes.old }
-    ensures { IsTrue result → Appends (W.contents output.old) (W.contents output.new)
-        (bytes_of words.now) }
+    ensures { OnOk result (Appends (W.contents output.old) (W.contents output.new)
+        (bytes_of words.now)) }
 {
     let count = 4 * words.len();
     let spelled = &mut bytes[..count];
     spelling::store(words, spelled);
-    output.write_all(spelled).is_ok()
+    output.write_all(spelled)
+}
+
+// Takes steps until one fails. A proved loop has to end, so the steps are counted, up to a number that no run reaches.
+pub fn run_until_it_fails<F: FnMut() -> io::Result<()>>(mut step: F)
+    requires { F.IsAlwaysCallable step }
+{
+    for _ in 0..u64::MAX {
+        if step().is_err() {
+            return;
+        }
+    }
 }

@@ -1,5 +1,4 @@
--- A turn of the loop over lent records: the three numbers of an answer are stored in the record at the place, one after
--- the other.
+-- A turn of the loop over lent records: an answer is stored in the record at the place.
 use Rattle.std.proofs.Common.{◌≡◌, ◌+◌, ◌<◌, ◌≤◌, ◌∙◌, ℕ, List, [], ◌∷◌, ◌++◌, length, get_or, set, refl, sym, ap, arith, append_assoc, length-append}
 use Rattle.std.proofs.Math.Seq.{get_or-append_seam, set-append_seam}
 use Rattle.rules.specs.Libraries.{ours}
@@ -15,21 +14,9 @@ none = record { kind = 0; b = 0; n = 0; code = 0; block = 0; granted = 0 }
 abbrev pub at : List Request → ℕ → Request
 at rs i = get_or rs i none
 
--- each number stored
-abbrev pub put_code : List Request → ℕ → Served → List Request
-put_code rs i to =
-    set rs i (record { kind = (at rs i).kind; b = (at rs i).b; n = (at rs i).n; code = to.code; block = (at rs i).block; granted = (at rs i).granted })
-
-abbrev pub put_block : List Request → ℕ → Served → List Request
-put_block rs i to =
-    set rs i (record { kind = (at rs i).kind; b = (at rs i).b; n = (at rs i).n; code = (at rs i).code; block = to.block; granted = (at rs i).granted })
-
-abbrev pub put_granted : List Request → ℕ → Served → List Request
-put_granted rs i to =
-    set rs i (record { kind = (at rs i).kind; b = (at rs i).b; n = (at rs i).n; code = (at rs i).code; block = (at rs i).block; granted = to.granted })
-
+-- the answer stored in it
 abbrev pub put : List Request → ℕ → Served → List Request
-put rs i to = put_granted (put_block (put_code rs i to) i to) i to
+put rs i to = set rs i (filled (at rs i) to)
 
 put_at : (before : List Request) (r : Request) (rest : List Request) (to : Served) → put (before ++ r ∷ rest) (length before) to ≡ before ++ filled r to ∷ rest
 put_at before r rest to = simp (get_or-append_seam, set-append_seam) refl

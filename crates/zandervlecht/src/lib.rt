@@ -27,7 +27,7 @@ pub extern "C" fn zv_start(a: &mut [u32]) -> u32
 pub extern "C" fn zv_alloc(a: &mut [u32], n: u32, answer: &mut [u32; 2]) -> u32
     ensures { Gives (alloc_on a.old n) (returned result answer.new) a.new }
 {
-    telling::tell_granted(arena::alloc(a, n), answer)
+    telling::tell(arena::alloc(a, n), answer)
 }
 
 // Grants a block of at least `n` words by best fit.
@@ -35,7 +35,7 @@ pub extern "C" fn zv_alloc(a: &mut [u32], n: u32, answer: &mut [u32; 2]) -> u32
 pub extern "C" fn zv_alloc_best(a: &mut [u32], n: u32, answer: &mut [u32; 2]) -> u32
     ensures { Gives (alloc_best_on a.old n) (returned result answer.new) a.new }
 {
-    telling::tell_granted(arena::alloc_best(a, n), answer)
+    telling::tell(arena::alloc_best(a, n), answer)
 }
 
 // Grants a block of at least `n` words by next fit, and moves the rover to the start of the chunk that was found.
@@ -48,10 +48,9 @@ pub extern "C" fn zv_alloc_next(
 ) -> u32
     ensures { Roves a.old rover.old.at n (returned result answer.new) a.new rover.new.at }
 {
-    let at = rover.at;
-    let told = telling::call_next(a, at, n, answer);
-    rover.at = told.rover;
-    told.code
+    let roved = arena::alloc_next(a, rover.at, n);
+    rover.at = roved.rover;
+    telling::tell(roved.granted, answer)
 }
 
 // Frees block `b`.
@@ -67,7 +66,7 @@ pub extern "C" fn zv_free(a: &mut [u32], b: u32) -> u32
 pub extern "C" fn zv_resize(a: &mut [u32], b: u32, n: u32, answer: &mut [u32; 2]) -> u32
     ensures { Gives (resize_on a.old b n) (returned result answer.new) a.new }
 {
-    telling::tell_granted(arena::resize(a, b, n), answer)
+    telling::tell(arena::resize(a, b, n), answer)
 }
 
 // Moves block `b` to a new block of at least `n` words.
@@ -75,7 +74,7 @@ pub extern "C" fn zv_resize(a: &mut [u32], b: u32, n: u32, answer: &mut [u32; 2]
 pub extern "C" fn zv_relocate(a: &mut [u32], b: u32, n: u32, answer: &mut [u32; 2]) -> u32
     ensures { Gives (relocate_on a.old b n) (returned result answer.new) a.new }
 {
-    telling::tell_granted(arena::relocate(a, b, n), answer)
+    telling::tell(arena::relocate(a, b, n), answer)
 }
 
 // Makes block `b` one of at least `n` words, where it stands or elsewhere.
@@ -83,7 +82,7 @@ pub extern "C" fn zv_relocate(a: &mut [u32], b: u32, n: u32, answer: &mut [u32; 
 pub extern "C" fn zv_realloc(a: &mut [u32], b: u32, n: u32, answer: &mut [u32; 2]) -> u32
     ensures { Gives (realloc_on a.old b n) (returned result answer.new) a.new }
 {
-    telling::tell_granted(arena::realloc(a, b, n), answer)
+    telling::tell(arena::realloc(a, b, n), answer)
 }
 
 // The words that were asked for when block `b` was granted last, and its granted words.
@@ -91,7 +90,7 @@ pub extern "C" fn zv_realloc(a: &mut [u32], b: u32, n: u32, answer: &mut [u32; 2
 pub extern "C" fn zv_size(a: &[u32], b: u32, answer: &mut [u32; 2]) -> u32
     ensures { Gives (size_on a.now b) (returned result answer.new) a.now }
 {
-    telling::tell_sized(arena::size(a, b), answer)
+    telling::tell(arena::size(a, b), answer)
 }
 
 // The free words, the largest request that would be granted now, the live blocks and the free chunks.
@@ -99,7 +98,7 @@ pub extern "C" fn zv_size(a: &[u32], b: u32, answer: &mut [u32; 2]) -> u32
 pub extern "C" fn zv_report(a: &[u32], answer: &mut [u32; 4]) -> u32
     ensures { Gives (report_on a.now) (returned result answer.new) a.now }
 {
-    telling::tell_reported(arena::report(a), answer)
+    telling::tell(arena::report(a), answer)
 }
 
 // Writes the picture of the arena to the start of the text, and answers how many bytes it has.
@@ -107,7 +106,7 @@ pub extern "C" fn zv_report(a: &[u32], answer: &mut [u32; 4]) -> u32
 pub extern "C" fn zv_write(a: &[u32], text: &mut [u8], answer: &mut [u32; 1]) -> u32
     ensures { Writes a.now text.old (returned result answer.new) text.new }
 {
-    telling::tell_written(picture::write(a, text), answer)
+    telling::tell(picture::write(a, text), answer)
 }
 
 // Makes the arena the words that a picture shows.
@@ -131,13 +130,10 @@ pub extern "C" fn zv_check(spelled: &[u8]) -> u32
 pub extern "C" fn zv_batch(a: &mut [u32], requests: &mut [Request])
     ensures { Fills (batch_on a.old requests.old) requests.new a.new }
 {
-    let mut i = 0;
-    while i < requests.len() {
-        let request = requests[i];
+    for request in requests.iter_mut() {
         let served = batch::serve(a, request.kind, request.b, request.n);
-        requests[i].code = served.code;
-        requests[i].block = served.block;
-        requests[i].granted = served.granted;
-        i += 1;
+        request.code = served.code;
+        request.block = served.block;
+        request.granted = served.granted;
     }
 }

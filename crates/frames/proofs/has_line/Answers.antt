@@ -5,10 +5,11 @@ use Rattle.digits.proofs.Putting.{put_length}
 use Rattle.rules.specs.Pictures.{line}
 use Rattle.rules.proofs.Pictures.{line_length_lem}
 use Rattle.frames.proofs.Lines.{line_ends, put_there, line_found}
+use Rattle.frames.specs.Lines.{kind_number}
 use Rattle.frames.proofs.has_line.Goals as goal
 
-pub overflow_add-end : goal.overflow_add-end
-overflow_add-end c = omega (arith, line_ends _ _ _ c.put_line-count.ensures)
+pub overflow_add-at : goal.overflow_add-at
+overflow_add-at c = omega (arith, line_ends _ _ _ c.put_line-count.ensures)
 
 pub slice_bounds-matches-end : goal.slice_bounds-matches-end
 slice_bounds-matches-end c = omega (arith, line_ends _ _ _ c.put_line-count.ensures)
@@ -34,5 +35,5 @@ returns c =
     let x = c.args in
     let put = c.put_line-count.ensures in
     c.matches.ensures
-    ∙ line_found x.text.now _ (line x.kind x.number x.words.now) x.at c.put_line-count.result (put.ends ∙ omega arith)
-    (put_there put (omega (arith, line_length_lem x.kind x.number x.words.now)))
+    ∙ line_found x.text.now _ (line (kind_number x.kind) x.number x.words.now) x.at c.put_line-count.result (put.ends ∙ omega arith)
+    (put_there put (omega (arith, line_length_lem (kind_number x.kind) x.number x.words.now)))

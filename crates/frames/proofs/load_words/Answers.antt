@@ -14,8 +14,8 @@ loop-i-preserved c =
     let i = c.loop-i.i in
     let all = length x.words.now in
     let next = word_next x.text.now (x.at + i * 8) (x.at + (i + 1) * 8) (all - i) (all - (i + 1)) (omega arith) (omega arith) in
-    let e = rw (← c.eight_at.ensures.is) at next in
-    filled_on x.words.now _ i (i + 1) ((c.eight_at.result % word_values) ∷ []) _ (omega arith) (omega arith) e c.loop-i.invariant
+    let e = rw (← c.number_at.ensures.is) at next in
+    filled_on x.words.now _ i (i + 1) ((c.number_at.result % word_values) ∷ []) _ (omega arith) (omega arith) e c.loop-i.invariant
 
 pub returns : goal.returns
 returns c =

@@ -1,5 +1,4 @@
--- The loop's invariant: the words stored so far, and those in the text behind them, are all the words. The measure is
--- how many are left.
+-- The loop's invariant: the words stored so far, and those in the text behind them, are all the words.
 use Prim.Native.Nat.{◌+◌, ◌*◌, ◌-◌}
 use lib.ListN.{length, drop}
 use Rattle.rules.specs.Pictures.{words_in}
@@ -10,6 +9,3 @@ abbrev pub invariant-loop-i : goal.invariant-loop-i
 invariant-loop-i l =
     let all = length l.initial.words in
     Filling l.initial.words l.words l.i (words_in (all - l.i) (drop (l.at + l.i * 8) l.text)) (words_in all (drop l.at l.text))
-
-abbrev pub decreases-loop-i : goal.decreases-loop-i
-decreases-loop-i l = length l.initial.words - l.i

@@ -2,34 +2,31 @@
 -- answered is heard.
 use Rattle.std.proofs.Common.{ℕ, suc, [], ◌∷◌, ◌++◌, ◌+◌, ◌<◌, ◌≡◌, refl, ap, ◌∙◌, length, take, arith, rules}
 use lib.ListN.{get_or, length-take}
-use lib.Seq.{take-suc}
+use lib.Seq.{take-suc, take_all}
 use Rattle.lines.proofs.Hearing.{none_heard, heard_on, answerable_taken, all_heard}
 use Rattle.lines.proofs.hear.Goals as goal
 
-pub loop-taken-init : goal.loop-taken-init
-loop-taken-init c =
+pub loop-b-init : goal.loop-b-init
+loop-b-init c =
     let x = c.args in
-    (omega arith, refl, none_heard x.last.place x.words.now x.out.now c.smaller.result (omega (arith, c.smaller.ensures)))
+    (refl, none_heard x.last.place x.words.now x.out.now c.min.result (omega (arith, c.min.ensures)))
 
-pub loop-taken-preserved : goal.loop-taken-preserved
-loop-taken-preserved c =
-    let piece = c.args.piece.now in
-    let taken = c.loop-taken.taken in
-    let more : taken < length piece = omega (arith, c.smaller-most.ensures, c.loop-taken-test.true) in
-    let one_more : taken + 1 ≡ suc taken = omega arith in
-    let next : take (taken + 1) piece ≡ take taken piece ++ get_or piece taken 0 ∷ []
-    = ap (λ (k : ℕ). take k piece) one_more ∙ take-suc piece taken 0 more in (
-      omega (arith, c.loop-taken-test.true),
-      search rules,
-      rw next (heard_on _ _ _ _ _ _ _ _ _ _ _ _ _ _ _ c.loop-taken.invariant.2 c.hear_byte-heard.ensures),
-    )
+pub loop-b-preserved : goal.loop-b-preserved
+loop-b-preserved c =
+    let bytes = take c.min-most.result c.args.piece.now in
+    let i = c.loop-b.b-index in
+    let one_more : i + 1 ≡ suc i = omega arith in
+    let next : take (i + 1) bytes ≡ take i bytes ++ get_or bytes i 0 ∷ []
+    = ap (λ (k : ℕ). take k bytes) one_more ∙ take-suc bytes i 0 c.loop-b-test.true in
+    (search rules, rw next (heard_on _ _ _ _ _ _ _ _ _ _ _ _ _ _ _ c.loop-b.invariant.1 c.hear_byte-heard.ensures))
 
 pub returns : goal.returns
 returns c =
     let x = c.args in
-    let most = c.smaller-most.ensures in
-    let all : c.loop-taken.taken ≡ c.smaller-most.result = omega (arith, c.loop-taken-test.false, c.loop-taken.invariant.0) in
-    let bytes = answerable_taken x.piece.now x.out.now _ (all ∙ most) in
-    let count = length-take c.loop-taken.taken x.piece.now in
-    rw (← bytes, ← c.smaller.ensures)
-    (all_heard _ _ _ _ _ _ _ (omega (arith, count, all, most)) (omega (arith, count, all, most)) c.loop-taken.invariant.2)
+    let most = c.min-most.ensures in
+    let all = take_all _ _ c.loop-b-test.false in
+    let bytes = all ∙ answerable_taken x.piece.now x.out.now _ most in
+    let count = ap length all in
+    let long = length-take c.min-most.result x.piece.now in
+    rw (← bytes, ← c.min.ensures)
+    (all_heard _ _ _ _ _ _ _ (omega (arith, count, long, most)) (omega (arith, count, long, most)) c.loop-b.invariant.1)

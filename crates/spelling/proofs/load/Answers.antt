@@ -10,8 +10,10 @@ pub loop-i-preserved : goal.loop-i-preserved
 loop-i-preserved c =
     let x = c.args in
     let i = c.loop-i.i in
-    let e = rw (← c.word.ensures) at (words_next x.bytes.now (4 * i) (4 * (i + 1)) (omega arith) (omega arith)) in
-    filled_on x.words.now _ i (i + 1) (c.word.result ∷ []) _ (omega arith) (omega arith) e c.loop-i.invariant
+    let e =
+    words_next x.bytes.now _ i (4 * (i + 1)) c.from_le_bytes.result c.as_chunks.ensures.front c.from_le_bytes.ensures (omega arith)
+    (omega arith) in
+    filled_on x.words.now _ i (i + 1) (c.from_le_bytes.result ∷ []) _ (omega arith) (omega arith) e c.loop-i.invariant
 
 pub returns : goal.returns
 returns c =

@@ -1,5 +1,5 @@
 -- `stores::copy` meets its contract: word by word, what std's `copy_within` leaves is what `copied` says.
-use Rattle.std.proofs.Common.{ℕ, ◌+◌, ◌-◌, ◌≡◌, ◌≤◌, ◌<◌, List, length, get_or, ◌∙◌, sym, ap, refl, arith, inl, inr, Bool, true, false}
+use Rattle.std.proofs.Common.{ℕ, ◌+◌, ◌-◌, ◌≡◌, ◌≤◌, List, length, get_or, ◌∙◌, sym, refl, arith, inl, inr, Bool, true, false}
 use Rattle.std.proofs.lemmas.List.{ext_get_or}
 use Rattle.std.specs.List.{CopiedTo, SameBelow, SameFrom}
 use lib.Dec.{ltb}

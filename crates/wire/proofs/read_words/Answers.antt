@@ -14,4 +14,4 @@ returns g c =
     let came = c.read_exact.new.buf in
     let whole : length came % 4 ≡ 0 = omega (arith, length-take (4 * length c.args.words.now) c.args.bytes.now) in
     let spelled = bytes_of_words came (all_bytes came _ c.type_inv.bytes) whole in
-    λ _. rw (c.load.ensures, spelled) (search rules)
+    rw (c.load.ensures, spelled) (search rules)

@@ -5,4 +5,4 @@ use Rattle.passes.proofs.Finding.{found_next}
 use Rattle.passes.proofs.fits.next_fit.Goals as goal
 
 pub returns : goal.returns
-returns c = found_next c.args.rover c.args.need (chunks_of c.args.a.now) _ c.lowest_fit.ensures (λ round. search of_calls) c.or_else.ensures
+returns c = found_next c.args.rover c.args.need (chunks_of c.args.a.now) _ _ c.lowest_fit.ensures (λ round. search of_calls) c.or_else.ensures

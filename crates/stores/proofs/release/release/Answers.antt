@@ -14,7 +14,7 @@ here : (c : After-room_at-words) → let l = c.requires in
     × Bounds c.args.a.now l.1 l.3 c.args.place.chunk c.room_at-words.result
 here c =
     let l = c.requires in
-    (reads _ _ _ _ _ _ l.4, bounds _ _ _ _ _ _ _ l.4 _ (c.room_at-words.ensures _ _ _ _ l.4))
+    (reads _ _ _ _ _ _ l.4, bounds l.4 (c.room_at-words.ensures _ _ _ _ l.4))
 
 pub ends_at-requires : goal.ends_at-requires
 ends_at-requires c = omega (arith, here (goal.at.ends_at-requires c).After-room_at-words)
@@ -34,7 +34,7 @@ put-requires c = omega (arith, here (goal.at.put-requires c).After-room_at-words
 pub returns-then-ends_at : goal.returns-then-ends_at
 returns-then-ends_at c pre s asked post st =
     c.put.ensures
-    ∙ releases _ pre s asked post _ _ st _ (c.room_at-words.ensures pre s asked post st) true (sym c.ends_at.ensures ∙ c.if-ends_at.true)
+    ∙ releases st (c.room_at-words.ensures pre s asked post st) true (sym c.ends_at.ensures ∙ c.if-ends_at.true)
 
 pub change-requires : goal.change-requires
 change-requires c = omega (arith, here (goal.at.change-requires c).After-room_at-words)
@@ -45,4 +45,4 @@ put-requires-2 c = omega (arith, here (goal.at.put-requires-2 c).After-room_at-w
 pub returns : goal.returns
 returns c pre s asked post st =
     rw (c.put-2.ensures, c.change.ensures)
-    (releases _ pre s asked post _ _ st _ (c.room_at-words.ensures pre s asked post st) false (sym c.ends_at.ensures ∙ c.if-ends_at.false))
+    (releases st (c.room_at-words.ensures pre s asked post st) false (sym c.ends_at.ensures ∙ c.if-ends_at.false))

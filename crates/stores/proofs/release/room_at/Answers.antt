@@ -34,7 +34,7 @@ bounds-a-next-then-next-place c =
     omega arith
 
 pub returns-then-next-place : goal.returns-then-next-place
-returns-then-next-place c pre s asked post st = (room_beside _ pre s asked post _ _ st c.if-next-place.true).2
+returns-then-next-place c pre s asked post st = (room_beside st c.if-next-place.true).2
 
 pub returns : goal.returns
-returns c pre s asked post st = room_alone _ pre s asked post _ _ st c.if-next-place.false
+returns c pre s asked post st = room_alone st c.if-next-place.false

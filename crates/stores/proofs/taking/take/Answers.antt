@@ -35,7 +35,7 @@ put_live-requires c = omega (arith, here (goal.at.put_live-requires c).Start)
 
 pub returns-then-rest-lt-LEAST_SPLIT : goal.returns-then-rest-lt-LEAST_SPLIT
 returns-then-rest-lt-LEAST_SPLIT c pre s post st =
-    rw (c.put_live.ensures, c.change.ensures) (took_whole _ pre s post _ _ _ _ st c.if-rest-lt-LEAST_SPLIT.true)
+    rw (c.put_live.ensures, c.change.ensures) (took_whole _ _ st c.if-rest-lt-LEAST_SPLIT.true)
 
 pub put-requires : goal.put-requires
 put-requires c = omega (arith, here (goal.at.put-requires c).Start)
@@ -47,4 +47,4 @@ pub returns : goal.returns
 returns c pre s post st =
     let h = here (goal.at.returns c).Start in
     rw (c.put_live-2.ensures, c.put.ensures)
-    (took_split _ pre s post _ _ _ _ st c.requires.5 h.enough c.if-rest-lt-LEAST_SPLIT.false)
+    (took_split _ _ st c.requires.5 h.enough c.if-rest-lt-LEAST_SPLIT.false)

@@ -32,7 +32,7 @@ fits : (c : After-kept_words-keep) → c.args.ask.need ≤ c.room_at-room.result
     → RoomFor (length c.args.a.now) c.args.place.link c.args.place.chunk c.kept_words-keep.result c.args.ask.asked c.room_at-room.result
 fits c has =
     let p = c.requires in
-    room_for _ _ _ _ _ _ _ p.0.4 _ (c.room_at-room.ensures _ _ _ _ p.0.4) _ _ p.1 has _ (kept c _ _ _ _ p.0.4)
+    room_for p.0.4 (c.room_at-room.ensures _ _ _ _ p.0.4) _ _ p.1 has (kept c _ _ _ _ p.0.4)
 
 pub offset_bounds-a-chunk : goal.offset_bounds-a-chunk
 offset_bounds-a-chunk c = omega (arith, stood (goal.at.offset_bounds-a-chunk c).Start)
@@ -52,5 +52,4 @@ pub returns : goal.returns
 returns c pre s asked post st =
     let at = goal.at.returns c in
     follows_as (ap Some c.grant.ensures) c.trim.ensures
-    (stays _ pre s asked post _ _ st c.room_at-room.result (c.room_at-room.ensures pre s asked post st) _ _ c.requires.1
-    (enough at.Else-room-ask) _ (kept at.After-kept_words-keep pre s asked post st))
+    (stays st (c.room_at-room.ensures pre s asked post st) _ _ c.requires.1 (enough at.Else-room-ask) (kept at.After-kept_words-keep pre s asked post st))
