@@ -49,6 +49,7 @@ pub fn alloc_best(a: &mut [u32], n: u32) -> Granted
 pub fn alloc_next(a: &mut [u32], rover: u32, n: u32) -> Roved
     ensures { Roves a.old rover n (granted_numbers result.granted) a.new result.rover }
 {
+    // A match and no `?`: a refusal hands the rover back as well.
     match targets::ask(a, n) {
         Ok(ask) => {
             let place = fits::next_fit(a, rover as usize, ask.need);
