@@ -1,7 +1,7 @@
 -- The number that the check walk answers, and what it says of the arena.
 use mathlib.Core.Path.{◌≡◌, refl, sym, ◌∙◌}
 use mathlib.Core.Bool.{Bool, true, false, cond}
-use mathlib.Core.List.{List, [], ◌∷◌}
+use mathlib.Core.List.{List}
 use Prim.Native.Nat.{ℕ}
 use native.Mathlib.Omega.{arith}
 use lib.ListN.{length, get_or}
@@ -10,10 +10,7 @@ use Rattle.std.specs.Prelude.{Result, Ok, Err, Some, None}
 use Rattle.std.proofs.lemmas.Option.{cond_some}
 use Rattle.layout.specs.Numbers.{lawful, first_chunk, list_word}
 use Rattle.layout.specs.Walk.{Walked, broken, whole, is_whole, chunks_in, walk_from, walked, sound, chunks_of}
-use Rattle.layout.specs.Chunks.{Chunk}
 use Rattle.layout.specs.Reasons.{arena_gate}
-use Rattle.layout.proofs.Holds.{Lawful}
-use Rattle.layout.proofs.Round.{sound_chunks}
 use Rattle.layout.specs.declared.Reason.{Reason}
 use Rattle.layout.specs.declared.Reason.TheVariants.{Length, Damaged}
 use Rattle.walk.specs.Steps.{met_by, chunk_count}
