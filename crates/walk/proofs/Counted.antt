@@ -15,6 +15,7 @@ use Rattle.layout.specs.declared.Reason.{Reason}
 use Rattle.layout.specs.declared.Reason.TheVariants.{Length, Damaged}
 use Rattle.walk.specs.Steps.{met_by, chunk_count}
 
+-- from the first chunk on, a walk that is whole has met its chunks, and no others
 met_chunks : (w : Walked) → met_by 0 w ≡ cond (is_whole w) (Some (length (chunks_in w))) None
 met_chunks broken = refl
 met_chunks (whole ks) = grind arith

@@ -1,10 +1,10 @@
 // The check walk: whether words are a sound arena, and how many chunks it has.
 #![tactic(auto)]
 
-ghost use Rattle.std.specs.Prelude.{◌≡◌, true, false, cond, ◌≤◌, ◌<◌, length, eqb, Option, None, Some};
-ghost use Rattle.layout.specs.Walk.{second_fits, walk_from};
+ghost use Rattle.std.specs.Prelude.{◌≡◌, true, false, cond, ◌≤◌, ◌<◌, length, Option, None, Some};
+ghost use Rattle.layout.specs.Walk.{second_fits};
 ghost use Rattle.layout.specs.Reasons.{arena_gate};
-ghost use Rattle.walk.specs.Steps.{size_at, met_by, chunk_count};
+ghost use Rattle.walk.specs.Steps.{size_at, chunk_count};
 
 use layout::{FIRST_CHUNK, LEAST_SIZE, LIST_WORD, Reason, is_live};
 
