@@ -27,26 +27,27 @@ SLICE_NAMES = {"a": ("arena", "words"), "text": ("text", "bytes"), "spelled": ("
 # The constants of the header and those of the code.
 CONSTANTS = {"ZV_LEAST_WORDS": "LEAST_LENGTH", "ZV_GREATEST_WORDS": "GREATEST_LENGTH"}
 
-# An enum of the code whose first case has named fields: its name, and these.
-ANSWER = re.compile(r"pub enum (\w+) \{\s*\w+ \{(.*?)\}", re.DOTALL)
+# What a call of the code answers: the name of this, and what is told where the call is done; and a struct of the code,
+# with its fields.
+ANSWER = re.compile(r"^pub type (\w+) = Result<(.*), Reason>;", re.MULTILINE)
+TOLD = re.compile(r"pub struct (\w+) \{(.*?)\}", re.DOTALL)
 
 # A record of the code that lies in memory as C has it, with its fields, and one of these.
 RECORD = re.compile(r"#\[repr\(C\)\]\n(?:#\[derive\([^\n]*\)\]\n)*pub struct (\w+) \{(.*?)\}", re.DOTALL)
 FIELD = re.compile(r"(\w+): (.+?),?\s*$", re.MULTILINE)
 
-# What makes the call of a kind, and its lines: for each kind the number, the answer, the call and what that takes.
+# What makes the call of a kind, and its lines: for each kind the number, the call and what that takes.
 KINDS = re.compile(r"\nfn call\(.*?match kind \{(.*?)\n    \}", re.DOTALL)
-KIND = re.compile(r"(\d+) => answers::(\w+)_numbers\(arena::(\w+)\(a(?:, (\w+(?:, \w+)*))?\)\),")
+KIND = re.compile(r"(\d+) => answers::in_numbers\(arena::(\w+)\(a(?:, (\w+(?:, \w+)*))?\)\),")
 UNKNOWN_KIND = "_ => answers::refusal_numbers(0, Reason::Frame),"
 
 # The fields that a record has of each answer: a size has the words asked for in the place of the block.
 ANSWERED = {"granted": ["block", "granted"], "sized": ["block", "granted"], "finish": []}
 
-# Where a function of the code begins, with its name; a function of `telling` that another crate calls; and one of these
-# that is called after the answer that it tells.
+# Where a function of the code begins, with its name; a call, with the type that it answers; and where one is made.
 FUNCTION = re.compile(r"\bfn (\w+)\(")
-TELLING = re.compile(r"\btelling::(\w+)\(")
-TELLS = re.compile(r"\btell_(\w+)\(")
+CALL = re.compile(r"^pub fn (\w+)\(.*\) -> (\w+)$", re.MULTILINE)
+CALLED = re.compile(r"\barena::(\w+)\(")
 
 COMMENT = re.compile(r"/\*(.*?)\*/", re.DOTALL)
 LINKAGE = re.compile(r'extern "C" \{(.*)\}', re.DOTALL)
@@ -134,21 +135,21 @@ def constants(layout):
 
 def codes(layout):
     """The codes: done, and the reasons in the code's order, with their numbers."""
-    reasons = re.findall(r"\w+", re.search(r"pub enum Reason \{(.*?)\}", layout, re.DOTALL).group(1))
-    numbers = dict(re.findall(r"Reason::(\w+) => (\d+)", layout))
+    reasons = re.search(r"pub enum Reason \{(.*?)\}", layout, re.DOTALL).group(1)
     yield "enum zv_code: ZV_DONE = 0"
-    for reason in reasons:
-        yield f"enum zv_code: ZV_{upper(reason)} = {numbers.get(reason, 'of no number')}"
+    for reason, number in re.findall(r"(\w+)(?: = (\d+))?,", reasons):
+        yield f"enum zv_code: ZV_{upper(reason)} = {number or 'of no number'}"
 
 
 def entries_in(inside):
-    """The fields that a case of an enum has, as entries of an enum of C, counted from 0."""
+    """The fields that a struct has, as entries of an enum of C, counted from 0."""
     return [f"ZV_{field.upper()} = {at}" for at, field in enumerate(re.findall(r"(\w+): u32", inside))]
 
 
 def entries_of(answers):
-    """The entries of each answer that has more than one field."""
-    return {f"zv_{name.lower()}": entries_in(inside) for name, inside in ANSWER.findall(answers)}
+    """The entries of each answer that has fields with names."""
+    inside = dict(TOLD.findall(answers))
+    return {f"zv_{name.lower()}": entries_in(inside[told]) for name, told in ANSWER.findall(answers) if told in inside}
 
 
 def fields(answers):
@@ -165,12 +166,20 @@ def functions_in(source):
     return dict(zip(parts[::2], parts[1::2]))
 
 
+def answers_of(root):
+    """The answer of each call; of one that tells more besides, that which it has in a field."""
+    answers = source_of(root, "answers")
+    known, inside = dict(ANSWER.findall(answers)), dict(TOLD.findall(answers))
+    for call, answered in CALL.findall(source_of(root, "arena")):
+        words = re.findall(r"\w+", inside.get(answered, answered))
+        yield from ((call, word.lower()) for word in words if word in known)
+
+
 def answering(root, answer):
-    """The functions for C that tell this answer, by themselves or through another function of `telling`."""
-    tellers = functions_in(source_of(root, "telling"))
+    """The functions for C that tell this answer: they make a call that answers so."""
+    answers = dict(answers_of(root))
     for name, text in functions_in(source_of(root, "zandervlecht")).items():
-        through = "".join(tellers.get(called, "") for called in TELLING.findall(text))
-        if answer in TELLS.findall(text + through):
+        if answer in map(answers.get, CALLED.findall(text)):
             yield name
 
 
@@ -182,9 +191,10 @@ def kind_lines(root):
 
 def kinds(root):
     """The kinds of request: of each its number, what it answers, its call, and what that takes besides the arena."""
+    answers = dict(answers_of(root))
     found = filter(None, map(KIND.fullmatch, kind_lines(root)))
-    return [(number, ANSWERED.get(answer, [answer]), call, taken.split(", ") if taken else [])
-            for number, answer, call, taken in (kind.groups() for kind in found)]
+    return [(number, ANSWERED.get(answers.get(call), [call]), call, taken.split(", ") if taken else [])
+            for number, call, taken in (kind.groups() for kind in found)]
 
 
 def kind_entries(root):

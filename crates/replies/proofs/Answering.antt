@@ -9,7 +9,7 @@ use lib.ListN.{length, take, drop, length-append, take-append-drop}
 use lib.Dec.{eqb}
 use borrow.Author.Tests.{le-leb, lt-leb, eqb-true, eqb-false}
 use Rattle.layout.specs.declared.Reason.{Reason}
-use Rattle.layout.specs.declared.Reason.TheVariants.{Length, Frame}
+use Rattle.layout.specs.declared.Reason.TheVariants.{Length}
 use Rattle.layout.specs.Reasons.{number}
 use Rattle.layout.proofs.Reasons.{number_positive}
 use Rattle.rules.specs.Answers.{Answer, success, refusal, Gives}

@@ -1,6 +1,6 @@
 -- `hear` meets its contract: nothing is heard at first, each round hears one byte more, and in the end all that can be
 -- answered is heard.
-use Rattle.std.proofs.Common.{ℕ, suc, [], ◌∷◌, ◌++◌, ◌+◌, ◌<◌, ◌≡◌, refl, ap, ◌∙◌, length, take, arith, rules}
+use Rattle.std.proofs.Common.{ℕ, suc, [], ◌∷◌, ◌++◌, ◌+◌, ◌≡◌, refl, ap, ◌∙◌, length, take, arith, rules}
 use lib.ListN.{get_or, length-take}
 use lib.Seq.{take-suc, take_all}
 use Rattle.lines.proofs.Hearing.{none_heard, heard_on, answerable_taken, all_heard}

@@ -1,6 +1,6 @@
 -- `batch::words::run` meets its contract: in each turn one record is filled, and behind the last there are fewer words
 -- than a record has.
-use Rattle.std.proofs.Common.{◌≡◌, ◌*◌, ◌+◌, ◌-◌, ◌<◌, ◌≤◌, ◌∙◌, length, arith, rules}
+use Rattle.std.proofs.Common.{◌≡◌, ◌*◌, ◌+◌, ◌-◌, ◌≤◌, ◌∙◌, length, arith, rules}
 use Rattle.batch.proofs.SixWords.{stepped, stopped}
 use Rattle.batch.proofs.words.run.Goals as goal
 
