@@ -28,11 +28,11 @@ one_further {from} {walk} {next} {s} come e m w a k =
 -- ---- behind the live chunks
 
 module _ {from to : Walk} (past : PastLive from to) (want : ℕ) where
-  pub past_end : to.at ≡ length to.words.now → cond (eqb want 0) to.met 0 ≡ met_from from want false
-  past_end e = at_end to.words.now to.at want false to.met e ∙ sym (past.comes.same want)
+  pub past_end : to.at ≡ length to.words.now → met_from from want false ≡ cond (eqb want 0) (Some to.met) None
+  past_end e = past.comes.same want ∙ at_end to.words.now to.at want false to.met e
 
-  pub past_no_size : (to.at ≡ length to.words.now → ⊥) → None ≡ size_at to.words.now to.at → 0 ≡ met_from from want false
-  past_no_size n e = no_size to.words.now to.at want false to.met n e ∙ sym (past.comes.same want)
+  pub past_no_size : (to.at ≡ length to.words.now → ⊥) → None ≡ size_at to.words.now to.at → met_from from want false ≡ None
+  past_no_size n e = past.comes.same want ∙ no_size to.words.now to.at want false to.met n e
 
   pub past_free : (s : ℕ) → Some s ≡ size_at to.words.now to.at → want ≡ to.at
       → met_from from want false ≡ met_by (to.met + 1) (walk_from to.words.now (to.at + s) (get_or to.words.now (to.at + 1) 0) true)
@@ -42,14 +42,14 @@ module _ {from to : Walk} (past : PastLive from to) (want : ℕ) where
       past.comes.same want ∙ on_free to.words.now to.at s e want to.met (past.stops below (λ q. cc (e, q))) l
 
   -- the last link names another place
-  pub past_off_link : (to.at ≡ length to.words.now → ⊥) → (want ≡ to.at → ⊥) → 0 ≡ met_from from want false
+  pub past_off_link : (to.at ≡ length to.words.now → ⊥) → (want ≡ to.at → ⊥) → met_from from want false ≡ None
   past_off_link n l = go (size_at to.words.now to.at) refl
     where
-      go : (found : Option ℕ) → size_at to.words.now to.at ≡ found → 0 ≡ met_from from want false
+      go : (found : Option ℕ) → size_at to.words.now to.at ≡ found → met_from from want false ≡ None
       go None e = past_no_size n (sym e)
       go (Some s) e =
           let below : to.at < length to.words.now = omega (arith, to.within, n) in
-          off_link to.words.now to.at s (sym e) want to.met (past.stops below (λ q. cc (e, q))) l ∙ sym (past.comes.same want)
+          past.comes.same want ∙ off_link to.words.now to.at s (sym e) want to.met (past.stops below (λ q. cc (e, q))) l
 
 -- what `after_live` cites
 pub ruleset past_laws = (size_bounds, past_end, past_no_size, past_free, past_off_link)

@@ -9,10 +9,10 @@ use Rattle.layout.specs.declared.Reason.TheVariants.{Length, Damaged}
 unfoldable pub size_at : List ℕ → ℕ → Option ℕ
 size_at a c = cond (header_fits a c) (Some (get_or a c 0)) None
 
--- how many chunks have been met at the end of a walk, `met` of them before; 0 where it breaks
-abbrev pub met_by : ℕ → Walked → ℕ
-met_by met broken = 0
-met_by met (whole ks) = met + length ks
+-- how many chunks have been met at the end of a walk, `met` of them before; None where it breaks
+abbrev pub met_by : ℕ → Walked → Option ℕ
+met_by met broken = None
+met_by met (whole ks) = Some (met + length ks)
 
 -- how many chunks a sound arena has; or why the words are none: Length, or else Damaged
 unfoldable pub chunk_count : List ℕ → Result ℕ Reason

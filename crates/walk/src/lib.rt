@@ -1,10 +1,10 @@
 // The check walk: whether words are a sound arena, and how many chunks it has.
 #![tactic(auto)]
 
-ghost use Rattle.std.specs.Prelude.{◌≡◌, true, false, cond, ◌≤◌, ◌<◌, length, eqb, Option, None, Some};
-ghost use Rattle.layout.specs.Walk.{second_fits, walk_from};
+ghost use Rattle.std.specs.Prelude.{◌≡◌, true, false, cond, ◌≤◌, ◌<◌, length, Option, None, Some};
+ghost use Rattle.layout.specs.Walk.{second_fits};
 ghost use Rattle.layout.specs.Reasons.{arena_gate};
-ghost use Rattle.walk.specs.Steps.{size_at, met_by, chunk_count};
+ghost use Rattle.walk.specs.Steps.{size_at, chunk_count};
 
 use layout::{FIRST_CHUNK, LEAST_SIZE, LIST_WORD, Reason, is_live};
 
@@ -31,13 +31,6 @@ fn size_at(a: &[u32], c: usize) -> Option<usize>
         return Some(s);
     }
     None
-}
-
-// What the check walk answers at the end of the arena: the chunks that it has met, or 0 where a link still names one.
-fn met_at_end(want: usize, met: usize) -> usize
-    ensures { result ≡ cond (eqb want 0) met 0 }
-{
-    if want == 0 { met } else { 0 }
 }
 
 // The check walk in the words of an arena: the word that it has come to, and how many chunks it has met by then.
@@ -72,25 +65,24 @@ impl<'a> Walk<'a> {
         }
     }
 
-    // Goes on where a live chunk or the control words end: how many chunks it has met at the end, or 0 where it breaks.
-    // `want` is where the last link says that the next free chunk starts (0: there is none). An Option comes back in two
-    // registers, and the walkers' calls could not be jumps.
+    // Goes on where a live chunk or the control words end: whether the walk comes whole to the end, with all chunks
+    // met. `want` is where the last link says that the next free chunk starts (0: there is none).
     #[cycle(after_free_after_live)]
     #[tactic(auto, using(crate::proofs::Steps::past_laws))]
-    fn after_live(&mut self, want: usize) -> usize
-        ensures { result ≡ met_from self.old want false }
+    fn after_live(&mut self, want: usize) -> bool
+        ensures { met_from self.old want false ≡ cond result (Some self.new.met) None }
     {
         self.pass_live();
         let a = self.words;
         let at = self.at;
         if at == a.len() {
-            return met_at_end(want, self.met);
+            return want == 0;
         }
         if want != at {
-            return 0;
+            return false;
         }
         let Some(s) = size_at(a, at) else {
-            return 0;
+            return false;
         };
         self.at += s;
         self.met += 1;
@@ -100,19 +92,19 @@ impl<'a> Walk<'a> {
     // Goes on where a free chunk ends: only a live chunk or the end may follow.
     #[cycle(after_free_after_live)]
     #[tactic(auto, using(crate::proofs::Meeting::place_laws))]
-    fn after_free(&mut self, want: usize) -> usize
-        ensures { result ≡ met_from self.old want true }
+    fn after_free(&mut self, want: usize) -> bool
+        ensures { met_from self.old want true ≡ cond result (Some self.new.met) None }
     {
         let a = self.words;
         let at = self.at;
         if at == a.len() {
-            return met_at_end(want, self.met);
+            return want == 0;
         }
         let Some(s) = size_at(a, at) else {
-            return 0;
+            return false;
         };
         if !is_live(a[at + 1]) {
-            return 0;
+            return false;
         }
         self.at += s;
         self.met += 1;
@@ -136,9 +128,10 @@ pub fn count_chunks(a: &[u32]) -> Result<usize, Reason>
         at: FIRST_CHUNK,
         met: 0,
     };
-    match walk.after_live(a[LIST_WORD] as usize) {
-        0 => Err(Reason::Damaged),
-        chunks => Ok(chunks),
+    if walk.after_live(a[LIST_WORD] as usize) {
+        Ok(walk.met)
+    } else {
+        Err(Reason::Damaged)
     }
 }
 
