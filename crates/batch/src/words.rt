@@ -29,6 +29,7 @@ pub fn run(a: &mut [u32], records: &mut [u32])
     ensures { FillsWords (batch_on a.old (records_in records.old))
         records.old records.new a.new }
 {
+    // By their places: of a slice that was lent in chunks no proof knows what it holds afterwards.
     for record in 0..records.len() / RECORD_WORDS {
         let at = record * RECORD_WORDS;
         let served = serve(a, records[at], records[at + 1], records[at + 2]);

@@ -19,13 +19,13 @@ pub fn numbers(reply: Reply) -> [u32; 6]
     ensures { result ≡ numbers_of reply }
 {
     let answered = reply.answered;
-    let fields = answered.fields;
+    let [first, second, third, fourth] = answered.fields;
     [
         answered.code,
-        fields[0],
-        fields[1],
-        fields[2],
-        fields[3],
+        first,
+        second,
+        third,
+        fourth,
         reply.count as u32,
     ]
 }
