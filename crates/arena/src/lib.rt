@@ -1,5 +1,6 @@
 // An allocator over one lent arena of 32-bit words. A call asks nothing of its caller: it is done as the rules say, or
-// it is refused with a reason and changes nothing.
+// it is refused with a reason and changes nothing. The three allocs differ in the search, and the three calls that grant
+// a block anew in the way: a function that is handed the one step would be as long as the three lines around it.
 #![tactic(auto)]
 
 ghost use Rattle.rules.specs.Answers.{Gives};
@@ -48,6 +49,7 @@ pub fn alloc_best(a: &mut [u32], n: u32) -> Granted
 pub fn alloc_next(a: &mut [u32], rover: u32, n: u32) -> Roved
     ensures { Roves a.old rover n (granted_numbers result.granted) a.new result.rover }
 {
+    // A match and no `?`: a refusal hands the rover back as well.
     match targets::ask(a, n) {
         Ok(ask) => {
             let place = fits::next_fit(a, rover as usize, ask.need);

@@ -97,7 +97,8 @@ fn answer_all<R: Read, W: Write>(
     Err(io::ErrorKind::TimedOut.into())
 }
 
-// The board's words are all zero, and none of them is lent before the first start.
+// The board's words are all zero, and none of them is lent before the first start. A run that fails ends as any other:
+// what it could not read or write is all that it would tell.
 fn main(rt: HostRuntime) {
     let mut words = [0u32; layout::GREATEST_LENGTH];
     let mut piece = [0u8; PIECE];

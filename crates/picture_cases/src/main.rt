@@ -27,7 +27,7 @@ struct Buffers {
 }
 
 // Makes the call of this number: 1 writes the picture of the arena to the text, 2 reads the text into the arena, and 3
-// checks the arena that the text's bytes spell.
+// checks the arena that the text's bytes spell. The number comes from a test, and is read here alone.
 fn answer(call: u32, text: &mut [u8], a: &mut [u32]) -> Numbers {
     match call {
         1 => answers::in_numbers(picture::write(a, text)),

@@ -55,7 +55,8 @@ fn kind(request: Request) -> u32
     }
 }
 
-// Makes a request's call on the lent words; a malformed line makes none.
+// Makes a request's call on the lent words; a malformed line makes none. How many are lent is a number beside all words,
+// since a start may lend more of them.
 fn make(request: Request, words: &mut [u32], lent: usize) -> Made
     requires { lent ≤ length words.old }
     ensures { Makes request (lending words.old lent) words.new result.lent result.numbers }

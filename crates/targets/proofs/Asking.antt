@@ -13,7 +13,7 @@ use Rattle.layout.specs.Chunks.{free}
 use Rattle.layout.specs.Walk.{sound, chunks_of}
 use Rattle.layout.specs.Reasons.{arena_gate, request_gate}
 use Rattle.layout.specs.Reasons.{Gate}
-use Rattle.std.specs.Prelude.{Option, Result, Ok, Err}
+use Rattle.std.specs.Prelude.{Option, Ok, Err}
 use Rattle.layout.specs.declared.Ask.{Ask}
 use Rattle.layout.specs.declared.Reason.{Reason}
 use Rattle.layout.specs.declared.Reason.TheVariants.{NoRoom}
@@ -70,8 +70,8 @@ module _ (a : List ℕ) (n : ℕ) where
       go : (arena : Gate) → arena_gate a ≡ arena → (request : Gate) → request_gate (length a) n ≡ request
           → Ok ask ≡ past arena (past request (Ok (ask_of n)))
           → Wanting ask
-      go (Err r) q request h p = absurd (let z : ◌≡◌ {A = ℕ} 0 1 = cc in omega arith)
-      go (Ok _) q (Err r) h p = absurd (let z : ◌≡◌ {A = ℕ} 0 1 = cc in omega arith)
+      go (Err r) q request h p = cc
+      go (Ok _) q (Err r) h p = cc
       go (Ok _) q (Ok _) h p =
           let same : ask ≡ ask_of n = cc in
           let e = gate_open a (sym q) in

@@ -4,7 +4,6 @@ use mathlib.Core.Path.{◌≡◌, refl, sym}
 use mathlib.Core.Bool.{true}
 use mathlib.Core.List.{List}
 use Prim.Native.Nat.{ℕ}
-use native.Mathlib.Omega.{arith}
 use lib.ListN.{length}
 use Rattle.std.specs.Prelude.{Option, Some, Result, Ok, Err, ok_or}
 use Rattle.layout.specs.Numbers.{lawful}
@@ -56,8 +55,8 @@ module _ (a : List ℕ) (b : ℕ) where
       go : (gate : Gate) → arena_gate a ≡ gate → (spot : Spot) → held b (chunks_of a) ≡ spot
           → Ok place ≡ past gate (ok_or (place_of spot) NotABlock)
           → (arena_gate a ≡ Ok tt) × FoundBlock a b place.link place.chunk
-      go (Err r) g spot q p = absurd (let z : ◌≡◌ {A = ℕ} 0 1 = cc in omega arith)
-      go (Ok _) g nowhere q p = absurd (let z : ◌≡◌ {A = ℕ} 0 1 = cc in omega arith)
+      go (Err r) g spot q p = cc
+      go (Ok _) g nowhere q p = cc
       go (Ok _) g (at pre k post) q p =
           let is : Some place ≡ place_of (at pre k post) = cc in
           (g, found_block a b place.link place.chunk (gate_open a (sym g)) (rw q is))
@@ -101,8 +100,8 @@ module _ (a : List ℕ) (b n : ℕ) where
       go : (found : Result Place Reason) → located a b ≡ found → (request : Gate) → request_gate (length a) n ≡ request
           → Ok target ≡ target_by found (past request (Ok (ask_of n)))
           → Aimed target
-      go (Err r) q request h p = absurd (let z : ◌≡◌ {A = ℕ} 0 1 = cc in omega arith)
-      go (Ok place) q (Err r) h p = absurd (let z : ◌≡◌ {A = ℕ} 0 1 = cc in omega arith)
+      go (Err r) q request h p = cc
+      go (Ok place) q (Err r) h p = cc
       go (Ok place) q (Ok _) h p =
           let is : target ≡ record { place = place; ask = ask_of n } = cc in
           let (opened, found) = block_located a b place (sym q) in

@@ -9,7 +9,7 @@ ghost use Rattle.telling.specs.Returned.{returned};
 use answers::{Fields, Finish};
 use layout::Reason;
 
-// What start, free and the reading of a picture tell: the code alone.
+// What start, free and the reading of a picture tell: the code alone, and C lends no array.
 pub fn tell_finish(finish: Finish) -> u32
     ensures { returned result [] ≡ finish_numbers finish }
 {

@@ -1,52 +1,43 @@
 -- The number that the check walk answers, and what it says of the arena.
 use mathlib.Core.Path.{◌≡◌, refl, sym, ◌∙◌}
 use mathlib.Core.Bool.{Bool, true, false, cond}
-use mathlib.Core.List.{List, [], ◌∷◌}
+use mathlib.Core.List.{List}
 use Prim.Native.Nat.{ℕ}
 use native.Mathlib.Omega.{arith}
 use lib.ListN.{length, get_or}
 use borrow.Author.Tests.{eq-eqb, ne_eqb}
-use Rattle.std.specs.Prelude.{Result, Ok, Err}
+use Rattle.std.specs.Prelude.{Result, Ok, Err, Some, None}
+use Rattle.std.proofs.lemmas.Option.{cond_some}
 use Rattle.layout.specs.Numbers.{lawful, first_chunk, list_word}
 use Rattle.layout.specs.Walk.{Walked, broken, whole, is_whole, chunks_in, walk_from, walked, sound, chunks_of}
-use Rattle.layout.specs.Chunks.{Chunk}
 use Rattle.layout.specs.Reasons.{arena_gate}
-use Rattle.layout.proofs.Holds.{Lawful}
-use Rattle.layout.proofs.Round.{sound_chunks}
 use Rattle.layout.specs.declared.Reason.{Reason}
 use Rattle.layout.specs.declared.Reason.TheVariants.{Length, Damaged}
 use Rattle.walk.specs.Steps.{met_by, chunk_count}
 
--- a sound arena has chunks
-some_chunks : (n : ℕ) (ks : List Chunk) → Lawful n ks → length ks ≡ 0 → ⊥
-some_chunks n [] l q = omega (arith, l.least, l.fills)
-some_chunks n (k ∷ ks) l q = omega arith
-
-met_chunks : (w : Walked) → met_by 0 w ≡ cond (is_whole w) (length (chunks_in w)) 0
+-- from the first chunk on, a walk that is whole has met its chunks, and no others
+met_chunks : (w : Walked) → met_by 0 w ≡ cond (is_whole w) (Some (length (chunks_in w))) None
 met_chunks broken = refl
-met_chunks (whole ks) = omega arith
+met_chunks (whole ks) = grind arith
 
 -- where the length is lawful and word 0 has it, the walk counts the chunks, or none where the arena is not sound
 module _ (a : List ℕ) (l : lawful (length a) ≡ true) (e : get_or a 0 0 ≡ length a) where
-  met_if_sound : met_by 0 (walk_from a first_chunk (get_or a list_word 0) false) ≡ cond (sound a) (length (chunks_of a)) 0
+  met_if_sound : met_by 0 (walk_from a first_chunk (get_or a list_word 0) false) ≡ cond (sound a) (Some (length (chunks_of a))) None
   unfolding walked sound chunks_of
   met_if_sound = simp (l, eq-eqb _ _ e) (met_chunks (walked a))
 
-  pub walk_breaks : 0 ≡ met_by 0 (walk_from a first_chunk (get_or a list_word 0) false) → chunk_count a ≡ Err Damaged
+  pub walk_breaks : met_by 0 (walk_from a first_chunk (get_or a list_word 0) false) ≡ None → chunk_count a ≡ Err Damaged
   unfolding chunk_count
-  walk_breaks q = go (sound a) refl (q ∙ met_if_sound)
+  walk_breaks q = go (sound a) refl (sym met_if_sound ∙ q)
     where
-      go : (b : Bool) → sound a ≡ b → 0 ≡ cond b (length (chunks_of a)) 0 → chunk_count a ≡ Err Damaged
-      go true s z = absurd (some_chunks (length a) (chunks_of a) (sound_chunks a s).law (sym z))
+      go : (b : Bool) → sound a ≡ b → cond b (Some (length (chunks_of a))) None ≡ None → chunk_count a ≡ Err Damaged
+      go true s z = cc z
       go false s z = simp (l, s)
 
-  pub walk_counts : (n : ℕ) → n ≡ met_by 0 (walk_from a first_chunk (get_or a list_word 0) false) → (n ≡ 0 → ⊥) → chunk_count a ≡ Ok n
+  pub walk_counts : (n : ℕ) → met_by 0 (walk_from a first_chunk (get_or a list_word 0) false) ≡ Some n → chunk_count a ≡ Ok n
   unfolding chunk_count
-  walk_counts n q h = go (sound a) refl (q ∙ met_if_sound)
-    where
-      go : (b : Bool) → sound a ≡ b → n ≡ cond b (length (chunks_of a)) 0 → chunk_count a ≡ Ok n
-      go true s z = simp (l, s, z)
-      go false s z = absurd (h z)
+  walk_counts n q =
+      let p = cond_some (sound a) (length (chunks_of a)) n (sym met_if_sound ∙ q) in simp (l, p.0, p.1)
 
 pub other_length : (a : List ℕ) → lawful (length a) ≡ true → (get_or a 0 0 ≡ length a → ⊥) → chunk_count a ≡ Err Damaged
 unfolding sound chunk_count

@@ -20,11 +20,11 @@ met_with : (met : ℕ) (k : Chunk) (r : Walked) → met_by met (with_chunk k r) 
 met_with met k broken = refl
 met_with met k (whole ks) = grind arith
 
-pub at_end : (a : List ℕ) (c w : ℕ) (j : Bool) (met : ℕ) → c ≡ length a → cond (eqb w 0) met 0 ≡ met_by met (walk_from a c w j)
+pub at_end : (a : List ℕ) (c w : ℕ) (j : Bool) (met : ℕ) → c ≡ length a → met_by met (walk_from a c w j) ≡ cond (eqb w 0) (Some met) None
 unfolding meet
 at_end a c w j met h = go (eqb w 0) refl
   where
-    go : (b : Bool) → eqb w 0 ≡ b → cond b met 0 ≡ met_by met (walk_from a c w j)
+    go : (b : Bool) → eqb w 0 ≡ b → met_by met (walk_from a c w j) ≡ cond b (Some met) None
     go true e = rw (from_end a c w j (simp (eq-eqb _ _ h, e))) (grind arith)
     go false e = rw (from_nothing a c w j (simp (eq-eqb _ _ h, e)))
 
@@ -37,7 +37,7 @@ no_fit a c e = go (header_fits a c) e
     go true q = cc
     go false q = refl
 
-pub no_size : (a : List ℕ) (c w : ℕ) (j : Bool) (met : ℕ) → (c ≡ length a → ⊥) → None ≡ size_at a c → 0 ≡ met_by met (walk_from a c w j)
+pub no_size : (a : List ℕ) (c w : ℕ) (j : Bool) (met : ℕ) → (c ≡ length a → ⊥) → None ≡ size_at a c → met_by met (walk_from a c w j) ≡ None
 unfolding meet
 no_size a c w j met h e = rw (from_nothing a c w j (simp (ne_eqb _ _ h, no_fit a c e)))
 
@@ -71,10 +71,10 @@ module _ (a : List ℕ) (c s : ℕ) (e : Some s ≡ size_at a c) where
       on_free m l =
           rw (from_chunk a c w false (free s) (get_or a (c + 1) 0) true (met_sized false ∙ simp (m, eq-eqb _ _ l)), met_with)
 
-      pub off_link : is_live (get_or a (c + 1) 0) ≡ false → (w ≡ c → ⊥) → 0 ≡ met_by met (walk_from a c w false)
+      pub off_link : is_live (get_or a (c + 1) 0) ≡ false → (w ≡ c → ⊥) → met_by met (walk_from a c w false) ≡ None
       off_link m l = rw (from_nothing a c w false (met_sized false ∙ simp (m, ne_eqb _ _ l)))
 
-      pub two_free : is_live (get_or a (c + 1) 0) ≡ false → 0 ≡ met_by met (walk_from a c w true)
+      pub two_free : is_live (get_or a (c + 1) 0) ≡ false → met_by met (walk_from a c w true) ≡ None
       two_free m = rw (from_nothing a c w true (met_sized true ∙ simp m))
 
 -- what `after_free` cites

@@ -1,10 +1,10 @@
 // The check walk: whether words are a sound arena, and how many chunks it has.
 #![tactic(auto)]
 
-ghost use Rattle.std.specs.Prelude.{◌≡◌, true, false, cond, ◌≤◌, ◌<◌, length, eqb, Option, None, Some};
-ghost use Rattle.layout.specs.Walk.{second_fits, walk_from};
+ghost use Rattle.std.specs.Prelude.{◌≡◌, true, false, cond, ◌≤◌, ◌<◌, length, Option, None, Some};
+ghost use Rattle.layout.specs.Walk.{second_fits};
 ghost use Rattle.layout.specs.Reasons.{arena_gate};
-ghost use Rattle.walk.specs.Steps.{size_at, met_by, PastLive, chunk_count};
+ghost use Rattle.walk.specs.Steps.{size_at, chunk_count};
 
 use layout::{FIRST_CHUNK, LEAST_SIZE, LIST_WORD, Reason, is_live};
 
@@ -33,81 +33,82 @@ fn size_at(a: &[u32], c: usize) -> Option<usize>
     None
 }
 
-// Where the check walk has come to, and how many chunks it has met by then.
+// The check walk in the words of an arena: the word that it has come to, and how many chunks it has met by then.
+// Its methods borrow it: passed by value it lies in memory anew for each call, and the walkers' calls are no jumps.
 #[derive(Clone, Copy)]
-struct Passed {
+struct Walk<'a> {
+    words: &'a [u32],
     at: usize,
     met: usize,
+    ghost within: { at ≤ length words.now },
+    ghost few: { met ≤ at },
 }
 
-// Goes past live chunks from word `c` on, before which `met` chunks were met, and ends where none stands: at a free
-// chunk, at the end, or at words that are no chunk.
-#[tactic(auto, using(crate::proofs::Meeting::size_bounds))]
-fn past_live(a: &[u32], c: usize, met: usize) -> Passed
-    requires { (c ≤ length a.now) × (met ≤ c) }
-    ensures { PastLive a.now c met result }
-{
-    let mut at = c;
-    let mut chunks = met;
-    while at < a.len() {
+impl<'a> Walk<'a> {
+    ghost use Rattle.walk.specs.Past.{met_from, PastLive};
+
+    // Goes past the live chunks that stand here, and ends where none stands: at a free chunk, at the end, or at words
+    // that are no chunk.
+    #[tactic(auto, using(crate::proofs::Meeting::size_bounds))]
+    fn pass_live(&mut self)
+        ensures { PastLive self.old self.new }
+    {
+        while self.at < self.words.len() {
+            let Some(s) = size_at(self.words, self.at) else {
+                break;
+            };
+            if !is_live(self.words[self.at + 1]) {
+                break;
+            }
+            self.at += s;
+            self.met += 1;
+        }
+    }
+
+    // Goes on where a live chunk or the control words end: whether the walk comes whole to the end, with all chunks
+    // met. `want` is where the last link says that the next free chunk starts (0: there is none).
+    #[cycle(after_free_after_live)]
+    #[tactic(auto, using(crate::proofs::Steps::past_laws))]
+    fn after_live(&mut self, want: usize) -> bool
+        ensures { met_from self.old want false ≡ cond result (Some self.new.met) None }
+    {
+        self.pass_live();
+        let a = self.words;
+        let at = self.at;
+        if at == a.len() {
+            return want == 0;
+        }
+        if want != at {
+            return false;
+        }
         let Some(s) = size_at(a, at) else {
-            break;
+            return false;
+        };
+        self.at += s;
+        self.met += 1;
+        self.after_free(a[at + 1] as usize)
+    }
+
+    // Goes on where a free chunk ends: only a live chunk or the end may follow.
+    #[cycle(after_free_after_live)]
+    #[tactic(auto, using(crate::proofs::Meeting::place_laws))]
+    fn after_free(&mut self, want: usize) -> bool
+        ensures { met_from self.old want true ≡ cond result (Some self.new.met) None }
+    {
+        let a = self.words;
+        let at = self.at;
+        if at == a.len() {
+            return want == 0;
+        }
+        let Some(s) = size_at(a, at) else {
+            return false;
         };
         if !is_live(a[at + 1]) {
-            break;
+            return false;
         }
-        at += s;
-        chunks += 1;
-    }
-    Passed { at, met: chunks }
-}
-
-// What the check walk answers at the end of the arena: the chunks that it has met, or 0 where a link still names one.
-fn met_at_end(want: usize, met: usize) -> usize
-    ensures { result ≡ cond (eqb want 0) met 0 }
-{
-    if want == 0 { met } else { 0 }
-}
-
-// The check walk from word `c`, where a live chunk or the control words end: how many chunks it has met at the end,
-// `met` of them before `c`, or 0 where it breaks. `want` is where the last link says that the next free chunk starts
-// (0: there is none). An Option comes back in two registers, and the walkers' calls could not be jumps.
-#[cycle(after_free_after_live)]
-#[tactic(auto, using(crate::proofs::Steps::past_laws))]
-fn after_live(a: &[u32], c: usize, want: usize, met: usize) -> usize
-    requires { (c ≤ length a.now) × (met ≤ c) }
-    ensures { result ≡ met_by met (walk_from a.now c want false) }
-{
-    let Passed { at, met: chunks } = past_live(a, c, met);
-    if at == a.len() {
-        return met_at_end(want, chunks);
-    }
-    if want != at {
-        return 0;
-    }
-    let Some(s) = size_at(a, at) else {
-        return 0;
-    };
-    after_free(a, at + s, a[at + 1] as usize, chunks + 1)
-}
-
-// The check walk from word `c`, where a free chunk ends: only a live chunk or the end may follow.
-#[cycle(after_free_after_live)]
-#[tactic(auto, using(crate::proofs::Meeting::place_laws))]
-fn after_free(a: &[u32], c: usize, want: usize, met: usize) -> usize
-    requires { (c ≤ length a.now) × (met ≤ c) }
-    ensures { result ≡ met_by met (walk_from a.now c want true) }
-{
-    if c == a.len() {
-        return met_at_end(want, met);
-    }
-    let Some(s) = size_at(a, c) else {
-        return 0;
-    };
-    if is_live(a[c + 1]) {
-        after_live(a, c + s, want, met + 1)
-    } else {
-        0
+        self.at += s;
+        self.met += 1;
+        self.after_live(want)
     }
 }
 
@@ -122,9 +123,15 @@ pub fn count_chunks(a: &[u32]) -> Result<usize, Reason>
     if a[0] as usize != a.len() {
         return Err(Reason::Damaged);
     }
-    match after_live(a, FIRST_CHUNK, a[LIST_WORD] as usize, 0) {
-        0 => Err(Reason::Damaged),
-        chunks => Ok(chunks),
+    let mut walk = Walk {
+        words: a,
+        at: FIRST_CHUNK,
+        met: 0,
+    };
+    if walk.after_live(a[LIST_WORD] as usize) {
+        Ok(walk.met)
+    } else {
+        Err(Reason::Damaged)
     }
 }
 

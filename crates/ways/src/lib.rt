@@ -1,5 +1,6 @@
 // The ways to grant: a new block (`allot`), and a block anew (`regrant_at`), where it stands (`staying`) or elsewhere
-// (`moving`).
+// (`moving`). Where the block stands and what is asked are said of the arena's words in each contract: a type would have
+// to hold these words, which each way then stores to.
 #![tactic(auto)]
 
 pub mod moving;
