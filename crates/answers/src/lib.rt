@@ -4,9 +4,11 @@
 ghost use Rattle.std.specs.Prelude.{◌≡◌, ℕ, List};
 ghost use Rattle.answers.specs.Readings.{read, no_fields, grant_fields, sizes_fields, counts_fields, one_field};
 ghost use Rattle.answers.specs.Padded.{four, padded, padded_refusal};
+ghost use Rattle.answers.specs.InRecords.{served_in};
 ghost use Rattle.answers.specs.FieldLaws.{FieldLaws, no_field_laws, grant_laws, sizes_laws, counts_laws, one_field_laws};
 
 use layout::Reason;
+use rules::Served;
 
 // A block, and the words granted with it.
 #[derive(Clone, Copy)]
@@ -164,6 +166,20 @@ pub struct Numbers {
     pub code: u32,
     pub count: usize,
     pub fields: [u32; 4],
+}
+
+// An answer as a record has it: the first two of its fields, which are 0 where it has none.
+impl From<Numbers> for Served {
+    ghost from_gives = { λ numbers served. served ≡ served_in numbers };
+
+    fn from(numbers: Numbers) -> Served {
+        let [block, granted, ..] = numbers.fields;
+        Served {
+            code: numbers.code,
+            block,
+            granted,
+        }
+    }
 }
 
 // A refusal that has `count` fields.
