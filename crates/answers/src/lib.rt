@@ -61,13 +61,12 @@ pub trait Fields {
     ghost values: { Self → List ℕ };
 
     // How many there are, in a refusal too.
-    ghost count: { ℕ };
+    ghost COUNT: { ℕ };
+
+    const COUNT: usize;
 
     // What each kind of answer keeps to.
-    ghost laws: { FieldLaws values count };
-
-    fn count() -> usize
-        ensures { result ≡ count };
+    ghost laws: { FieldLaws values COUNT };
 
     // The fields, behind which all is 0.
     fn fields(self) -> [u32; 4]
@@ -77,13 +76,11 @@ pub trait Fields {
 impl Fields for () {
     ghost values = { no_fields };
 
-    ghost count = { 0 };
+    ghost COUNT = { 0 };
+
+    const COUNT: usize = 0;
 
     ghost laws = { no_field_laws };
-
-    fn count() -> usize {
-        0
-    }
 
     fn fields(self) -> [u32; 4] {
         [0; 4]
@@ -93,13 +90,11 @@ impl Fields for () {
 impl Fields for Grant {
     ghost values = { grant_fields };
 
-    ghost count = { 2 };
+    ghost COUNT = { 2 };
+
+    const COUNT: usize = 2;
 
     ghost laws = { grant_laws };
-
-    fn count() -> usize {
-        2
-    }
 
     fn fields(self) -> [u32; 4] {
         [self.block, self.granted, 0, 0]
@@ -109,13 +104,11 @@ impl Fields for Grant {
 impl Fields for Sizes {
     ghost values = { sizes_fields };
 
-    ghost count = { 2 };
+    ghost COUNT = { 2 };
+
+    const COUNT: usize = 2;
 
     ghost laws = { sizes_laws };
-
-    fn count() -> usize {
-        2
-    }
 
     fn fields(self) -> [u32; 4] {
         [self.asked, self.granted, 0, 0]
@@ -125,13 +118,11 @@ impl Fields for Sizes {
 impl Fields for Counts {
     ghost values = { counts_fields };
 
-    ghost count = { 4 };
+    ghost COUNT = { 4 };
+
+    const COUNT: usize = 4;
 
     ghost laws = { counts_laws };
-
-    fn count() -> usize {
-        4
-    }
 
     fn fields(self) -> [u32; 4] {
         [
@@ -146,13 +137,11 @@ impl Fields for Counts {
 impl Fields for u32 {
     ghost values = { one_field };
 
-    ghost count = { 1 };
+    ghost COUNT = { 1 };
+
+    const COUNT: usize = 1;
 
     ghost laws = { one_field_laws };
-
-    fn count() -> usize {
-        1
-    }
 
     fn fields(self) -> [u32; 4] {
         [self, 0, 0, 0]
@@ -195,14 +184,14 @@ pub fn refusal_numbers(count: usize, why: Reason) -> Numbers
 
 // What a call answers, in numbers.
 pub fn in_numbers<F: Fields>(answer: Result<F, Reason>) -> Numbers
-    ensures { result ≡ padded (read F.values F.count answer) }
+    ensures { result ≡ padded (read F.values F.COUNT answer) }
 {
     match answer {
         Ok(told) => Numbers {
             code: 0,
-            count: F::count(),
+            count: F::COUNT,
             fields: told.fields(),
         },
-        Err(why) => refusal_numbers(F::count(), why),
+        Err(why) => refusal_numbers(F::COUNT, why),
     }
 }
