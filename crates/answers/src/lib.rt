@@ -148,8 +148,8 @@ impl Fields for u32 {
     }
 }
 
-// An answer in numbers: its code, how many fields it has, and the fields, behind which all is 0. Four fields whatever the
-// count, since records and C's arrays take the first of them unasked.
+// An answer in numbers: its code, how many fields it has, and the fields, behind which all is 0. Four fields whatever
+// the count, since records and C's arrays take the first of them unasked.
 #[derive(Clone, Copy)]
 pub struct Numbers {
     pub code: u32,

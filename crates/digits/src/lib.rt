@@ -95,7 +95,8 @@ pub fn put_line<const NUMBER: usize, const WORD: usize>(
     words: &[u32],
 ) -> usize
     requires { at + (2 + NUMBER + length words.now * WORD) < length out.old }
-    ensures { Puts at (digits_of 2 kind ++ (digits_of NUMBER number ++ (in_digits (digits_of WORD) words.now ++ line_end ∷ [])))
+    ensures { Puts at
+        (digits_of 2 kind ++ (digits_of NUMBER number ++ (in_digits (digits_of WORD) words.now ++ line_end ∷ [])))
         out.old result out.new }
 {
     put::<2>(out, at, kind);
