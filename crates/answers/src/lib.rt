@@ -4,9 +4,11 @@
 ghost use Rattle.std.specs.Prelude.{◌≡◌, ℕ, List};
 ghost use Rattle.answers.specs.Readings.{read, no_fields, grant_fields, sizes_fields, counts_fields, one_field};
 ghost use Rattle.answers.specs.Padded.{four, padded, padded_refusal};
+ghost use Rattle.answers.specs.InRecords.{served_in};
 ghost use Rattle.answers.specs.FieldLaws.{FieldLaws, no_field_laws, grant_laws, sizes_laws, counts_laws, one_field_laws};
 
 use layout::Reason;
+use rules::Served;
 
 // A block, and the words granted with it.
 #[derive(Clone, Copy)]
@@ -59,13 +61,12 @@ pub trait Fields {
     ghost values: { Self → List ℕ };
 
     // How many there are, in a refusal too.
-    ghost count: { ℕ };
+    ghost COUNT: { ℕ };
+
+    const COUNT: usize;
 
     // What each kind of answer keeps to.
-    ghost laws: { FieldLaws values count };
-
-    fn count() -> usize
-        ensures { result ≡ count };
+    ghost laws: { FieldLaws values COUNT };
 
     // The fields, behind which all is 0.
     fn fields(self) -> [u32; 4]
@@ -75,13 +76,11 @@ pub trait Fields {
 impl Fields for () {
     ghost values = { no_fields };
 
-    ghost count = { 0 };
+    ghost COUNT = { 0 };
+
+    const COUNT: usize = 0;
 
     ghost laws = { no_field_laws };
-
-    fn count() -> usize {
-        0
-    }
 
     fn fields(self) -> [u32; 4] {
         [0; 4]
@@ -91,13 +90,11 @@ impl Fields for () {
 impl Fields for Grant {
     ghost values = { grant_fields };
 
-    ghost count = { 2 };
+    ghost COUNT = { 2 };
+
+    const COUNT: usize = 2;
 
     ghost laws = { grant_laws };
-
-    fn count() -> usize {
-        2
-    }
 
     fn fields(self) -> [u32; 4] {
         [self.block, self.granted, 0, 0]
@@ -107,13 +104,11 @@ impl Fields for Grant {
 impl Fields for Sizes {
     ghost values = { sizes_fields };
 
-    ghost count = { 2 };
+    ghost COUNT = { 2 };
+
+    const COUNT: usize = 2;
 
     ghost laws = { sizes_laws };
-
-    fn count() -> usize {
-        2
-    }
 
     fn fields(self) -> [u32; 4] {
         [self.asked, self.granted, 0, 0]
@@ -123,13 +118,11 @@ impl Fields for Sizes {
 impl Fields for Counts {
     ghost values = { counts_fields };
 
-    ghost count = { 4 };
+    ghost COUNT = { 4 };
+
+    const COUNT: usize = 4;
 
     ghost laws = { counts_laws };
-
-    fn count() -> usize {
-        4
-    }
 
     fn fields(self) -> [u32; 4] {
         [
@@ -144,26 +137,38 @@ impl Fields for Counts {
 impl Fields for u32 {
     ghost values = { one_field };
 
-    ghost count = { 1 };
+    ghost COUNT = { 1 };
+
+    const COUNT: usize = 1;
 
     ghost laws = { one_field_laws };
-
-    fn count() -> usize {
-        1
-    }
 
     fn fields(self) -> [u32; 4] {
         [self, 0, 0, 0]
     }
 }
 
-// An answer in numbers: its code, how many fields it has, and the fields, behind which all is 0. Four fields whatever the
-// count, since records and C's arrays take the first of them unasked.
+// An answer in numbers: its code, how many fields it has, and the fields, behind which all is 0. Four fields whatever
+// the count, since records and C's arrays take the first of them unasked.
 #[derive(Clone, Copy)]
 pub struct Numbers {
     pub code: u32,
     pub count: usize,
     pub fields: [u32; 4],
+}
+
+// An answer as a record has it: the first two of its fields, which are 0 where it has none.
+impl From<Numbers> for Served {
+    ghost from_gives = { λ numbers served. served ≡ served_in numbers };
+
+    fn from(numbers: Numbers) -> Served {
+        let [block, granted, ..] = numbers.fields;
+        Served {
+            code: numbers.code,
+            block,
+            granted,
+        }
+    }
 }
 
 // A refusal that has `count` fields.
@@ -179,14 +184,14 @@ pub fn refusal_numbers(count: usize, why: Reason) -> Numbers
 
 // What a call answers, in numbers.
 pub fn in_numbers<F: Fields>(answer: Result<F, Reason>) -> Numbers
-    ensures { result ≡ padded (read F.values F.count answer) }
+    ensures { result ≡ padded (read F.values F.COUNT answer) }
 {
     match answer {
         Ok(told) => Numbers {
             code: 0,
-            count: F::count(),
+            count: F::COUNT,
             fields: told.fields(),
         },
-        Err(why) => refusal_numbers(F::count(), why),
+        Err(why) => refusal_numbers(F::COUNT, why),
     }
 }

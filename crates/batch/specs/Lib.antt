@@ -1,2 +1,1 @@
-pub mod InRecords
 pub mod SixWords

@@ -4,11 +4,9 @@
 
 pub mod words;
 
-ghost use Rattle.std.specs.Prelude.{◌≡◌};
 ghost use Rattle.rules.specs.Libraries.{ours};
 ghost use Rattle.rules.specs.Batches.{wanted, made_singly, Serves};
 ghost use Rattle.answers.specs.Padded.{Settles};
-ghost use Rattle.batch.specs.InRecords.{served_in};
 
 use answers::Numbers;
 use layout::Reason;
@@ -31,22 +29,9 @@ fn call(a: &mut [u32], kind: u32, b: u32, n: u32) -> Numbers
     }
 }
 
-// An answer as a record has it: the first two of its fields, which are 0 where it has none. (No `From`: neither type is
-// this crate's own.)
-fn in_record(numbers: Numbers) -> Served
-    ensures { result ≡ served_in numbers }
-{
-    let [block, granted, ..] = numbers.fields;
-    Served {
-        code: numbers.code,
-        block,
-        granted,
-    }
-}
-
 // Serves one request: a kind and two numbers, of which it ignores what the kind does not take.
 pub fn serve(a: &mut [u32], kind: u32, b: u32, n: u32) -> Served
     ensures { Serves (made_singly ours (wanted kind b n) a.old) result a.new }
 {
-    in_record(call(a, kind, b, n))
+    Served::from(call(a, kind, b, n))
 }

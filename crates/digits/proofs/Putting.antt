@@ -93,3 +93,9 @@ room_left digits i vs less put =
     let front : length (in_digits (digits_of digits) (take i vs)) ≡ i * digits
     = in_length (digits_of digits) digits (digits_count digits) (take i vs) ∙ ap (λ (k : ℕ). k * digits) (length-take-le i vs (omega arith)) in
     omega (arith, put.ends, front, suc-mul i digits, mul-le-mul_right {m = suc i} {n = length vs} digits (omega arith))
+
+-- where numbers that are put end, in a text that stays as long as it was
+pub numbers_end : (digits : ℕ) (vs : List ℕ) {at end : ℕ} {room text : List ℕ} → Puts at (in_digits (digits_of digits) vs) room end text
+    → (end ≡ at + length vs * digits) × (length text ≡ length room)
+numbers_end digits vs put =
+    (omega (arith, put.ends, in_length (digits_of digits) digits (digits_count digits) vs), put_length put)

@@ -1,8 +1,8 @@
 // Hexadecimal digits as bytes: what a byte is worth, numbers found in a text, and numbers put into a lent one.
 #![tactic(auto)]
 
-ghost use Rattle.std.specs.Prelude.{◌≡◌, ◌+◌, ◌*◌, ◌≤◌, ◌<◌, length};
-ghost use Rattle.digits.specs.Digits.{digits_of, in_digits};
+ghost use Rattle.std.specs.Prelude.{◌≡◌, ◌+◌, ◌*◌, ◌≤◌, ◌<◌, length, [], ◌∷◌, ◌++◌};
+ghost use Rattle.digits.specs.Digits.{line_end, digits_of, in_digits};
 ghost use Rattle.digits.specs.Digits.{worth as worth_of, upper as upper_of, glyph as glyph_of};
 ghost use Rattle.digits.specs.Putting.{Puts};
 ghost use Rattle.digits.specs.NumbersFound.{NumberAt, most_of};
@@ -83,4 +83,25 @@ pub fn put_all<const DIGITS: usize>(out: &mut [u8], at: usize, numbers: &[u32]) 
         end += DIGITS;
     }
     end
+}
+
+// Writes a line, and gives where it ends: its kind in two digits, a number and words in so many each, and the line's
+// end.
+pub fn put_line<const NUMBER: usize, const WORD: usize>(
+    out: &mut [u8],
+    at: usize,
+    kind: u32,
+    number: u32,
+    words: &[u32],
+) -> usize
+    requires { at + (2 + NUMBER + length words.now * WORD) < length out.old }
+    ensures { Puts at
+        (digits_of 2 kind ++ (digits_of NUMBER number ++ (in_digits (digits_of WORD) words.now ++ line_end ∷ [])))
+        out.old result out.new }
+{
+    put::<2>(out, at, kind);
+    put::<NUMBER>(out, at + 2, number);
+    let end = put_all::<WORD>(out, at + 2 + NUMBER, words);
+    out[end] = b'\n';
+    end + 1
 }

@@ -4,30 +4,25 @@ use mathlib.Core.Path.{◌≡◌, refl, sym, ap}
 use mathlib.Core.Bool.{Bool, true, false, and-false}
 use mathlib.Core.List.{List, [], ◌∷◌, ◌++◌, map}
 use native.Mathlib.Omega.{arith}
-use lib.ListN.{length, take, drop, set}
+use lib.ListN.{length, take, drop}
 use lib.Seq.{drop-drop, take-append_seam}
 use borrow.Author.Tests.{eq-eqb, ne_eqb}
 use Rattle.std.specs.Bool.{MatchBool}
 use Rattle.std.specs.List.{zip, AllWithin, HoldsAt}
 use Rattle.layout.specs.Numbers.{word_values}
-use Rattle.digits.specs.Digits.{line_end, number_of, upper, two_digits, four_digits, eight_digits, digits_of, in_digits}
+use Rattle.digits.specs.Digits.{line_end, number_of, upper, eight_digits, digits_of, in_digits}
 use Rattle.digits.specs.Putting.{Puts}
 use Rattle.digits.proofs.Counts.{two_of, four_of, eight_of, in_same}
-use Rattle.digits.proofs.Putting.{puts_line, put_front}
+use Rattle.digits.proofs.Putting.{put_front}
 use Rattle.rules.specs.Pictures.{line, line_length, words_in, same}
 use Rattle.rules.proofs.Pictures.{line_length_lem}
 use Rattle.frames.specs.Lines.{has_line}
 
--- kind, number, words and the line's end, one after the other
-pub line_put : (kind number at end : ℕ) (ws room one two three : List ℕ) → Puts at (digits_of 2 kind) room (at + 2) one
-    → Puts (at + 2) (digits_of 4 number) one (at + 2 + 4) two → Puts (at + 6) (in_digits (digits_of 8) ws) two end three
-    → Puts at (line kind number ws) room (end + 1) (set three end line_end)
+-- a line's parts are the kind, the number, the words and the line's end
+pub line_is : (kind number : ℕ) (ws : List ℕ)
+    → digits_of 2 kind ++ (digits_of 4 number ++ (in_digits (digits_of 8) ws ++ line_end ∷ [])) ≡ line kind number ws
 unfolding line
-line_put kind number at end ws room one two three first second words =
-    let number_put : Puts (at + 2) (four_digits number) one (at + 6) two
-    = rw (← four_of number) (record { ends = omega (arith, second.ends); says = second.says }) in
-    puts_line at (at + 2) (at + 6) end (two_digits kind) (four_digits number) (in_digits eight_digits ws) room one two three
-    (rw two_of at first) number_put (rw (in_same (digits_of 8) eight_digits eight_of) at words)
+line_is kind number ws = rw (two_of, four_of, in_same (digits_of 8) eight_digits eight_of ws)
 
 -- where a line that was put ends
 pub line_ends : (kind number : ℕ) (words : List ℕ) {at end : ℕ} {room text : List ℕ} → Puts at (line kind number words) room end text

@@ -38,8 +38,7 @@ pub fn picture_length(n: usize) -> usize
     requires { n < four_digit_values }
     ensures { result ≡ picture_length n }
 {
-    let frames = (n + (FRAME_WORDS - 1)) / FRAME_WORDS;
-    (1 + frames) * BARE_LINE + n * WORD_DIGITS
+    (1 + n.div_ceil(FRAME_WORDS)) * BARE_LINE + n * WORD_DIGITS
 }
 
 // Writes a line, and gives where it ends.
@@ -47,11 +46,7 @@ pub fn put_line(out: &mut [u8], at: usize, kind: Kind, number: u32, words: &[u32
     requires { at + line_length (length words.now) ≤ length out.old }
     ensures { Puts at (line (kind_number kind) number words.now) out.old result out.new }
 {
-    digits::put::<2>(out, at, kind as u32);
-    digits::put::<4>(out, at + 2, number);
-    let end = digits::put_all::<WORD_DIGITS>(out, at + LINE_HEAD, words);
-    out[end] = b'\n';
-    end + 1
+    digits::put_line::<4, WORD_DIGITS>(out, at, kind as u32, number, words)
 }
 
 // Makes `words` the words that stand in a text from byte `at` on, whatever bytes these are: if one is no digit the

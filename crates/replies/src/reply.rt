@@ -14,9 +14,6 @@ pub(crate) fn put_reply(out: &mut [u8], at: usize, kind: u32, numbers: Numbers) 
     requires { (numbers.count ≤ length numbers.fields) × (at + reply_length numbers.count ≤ length out.old) }
     ensures { Puts at (reply_text kind (answer_in numbers)) out.old result out.new }
 {
-    digits::put::<2>(out, at, kind);
-    digits::put::<2>(out, at + 2, numbers.code);
-    let end = digits::put_all::<FIELD_DIGITS>(out, at + 4, &numbers.fields[..numbers.count]);
-    out[end] = b'\n';
-    end + 1
+    let fields = &numbers.fields[..numbers.count];
+    digits::put_line::<2, FIELD_DIGITS>(out, at, kind, numbers.code, fields)
 }

@@ -19,7 +19,7 @@ use rules::Rover;
 pub extern "C" fn zv_start(a: &mut [u32]) -> u32
     ensures { Gives (start_on a.old) (returned result []) a.new }
 {
-    telling::tell_finish(arena::start(a))
+    telling::tell(arena::start(a), &mut [])
 }
 
 // Grants a block of at least `n` words.
@@ -58,7 +58,7 @@ pub extern "C" fn zv_alloc_next(
 pub extern "C" fn zv_free(a: &mut [u32], b: u32) -> u32
     ensures { Gives (free_on a.old b) (returned result []) a.new }
 {
-    telling::tell_finish(arena::free(a, b))
+    telling::tell(arena::free(a, b), &mut [])
 }
 
 // Makes block `b` one of at least `n` words where it stands.
@@ -114,7 +114,7 @@ pub extern "C" fn zv_write(a: &[u32], text: &mut [u8], answer: &mut [u32; 1]) ->
 pub extern "C" fn zv_read(text: &[u8], a: &mut [u32]) -> u32
     ensures { Gives (read_on text.now a.old) (returned result []) a.new }
 {
-    telling::tell_finish(picture::read(text, a))
+    telling::tell(picture::read(text, a), &mut [])
 }
 
 // Checks the arena that bytes spell, four to a word, the lowest first: 0, 1 or 2.
