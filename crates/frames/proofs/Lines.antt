@@ -1,14 +1,13 @@
 -- A line put part by part, words that are loaded one by one, and a line that is compared byte by byte.
-use Prim.Native.Nat.{ℕ, zero, suc, ◌+◌, ◌-◌, ◌%◌, ◌≤◌, ◌<◌}
-use mathlib.Core.Path.{◌≡◌, refl, sym, ap}
-use mathlib.Core.Bool.{Bool, true, false, and-false}
+use Prim.Native.Nat.{ℕ, suc, ◌+◌, ◌-◌, ◌%◌, ◌≤◌, ◌<◌}
+use mathlib.Core.Path.{◌≡◌, refl, ap}
+use mathlib.Core.Bool.{Bool, true, false, ◌&&◌}
 use mathlib.Core.List.{List, [], ◌∷◌, ◌++◌, map}
 use native.Mathlib.Omega.{arith}
-use lib.ListN.{length, take, drop}
-use lib.Seq.{drop-drop, take-append_seam}
-use borrow.Author.Tests.{eq-eqb, ne_eqb}
-use Rattle.std.specs.Bool.{MatchBool}
-use Rattle.std.specs.List.{zip, AllWithin, HoldsAt}
+use lib.ListN.{length, get_or, take, drop, drop_of_length-le}
+use lib.Dec.{eqb}
+use native.Mathlib.Numerals.{add-one}
+use lib.Seq.{drop-cons, drop-drop, take-append_seam}
 use Rattle.layout.specs.Numbers.{word_values}
 use Rattle.digits.specs.Digits.{line_end, number_of, upper, eight_digits, digits_of, in_digits}
 use Rattle.digits.specs.Putting.{Puts}
@@ -57,31 +56,14 @@ no_words_left left text e = rw e
 
 -- ---- a line that is compared
 
--- two texts of one length are the same if the bytes of each pair are alike, and else one pair decides
-abbrev pub Alike : ℕ × ℕ → Type 0
-Alike pair = upper pair.0 ≡ pair.1
-
-abbrev pub Differ : ℕ × ℕ → Type 0
-Differ pair = upper pair.0 ≡ pair.1 → ⊥
-
-all_alike : (xs ys : List ℕ) → length xs ≡ length ys → AllWithin Alike (zip xs ys) 0 (length (zip xs ys)) → same (map upper xs) ys ≡ true
+-- two texts from byte `i` on: the first byte of each, and the rest
+pub same_next : (part expected : List ℕ) (i : ℕ) (rest : Bool) → i < length part → i < length expected
+    → (rest && same (map upper (drop i part)) (drop i expected))
+    ≡ ((rest && eqb (upper (get_or part i 0)) (get_or expected i 0)) && same (map upper (drop (i + 1) part)) (drop (i + 1) expected))
 unfolding same
-all_alike [] [] long alike = refl
-all_alike [] (y ∷ ys) long alike = absurd (omega arith)
-all_alike (x ∷ xs) [] long alike = absurd (omega arith)
-all_alike (x ∷ xs) (y ∷ ys) long alike =
-    rw (eq-eqb _ _ (alike 0 (x, y) (omega arith) (omega arith)))
-    (all_alike xs ys (omega arith) (λ k pair least less. alike (suc k) pair (omega arith) (omega arith)))
+same_next part expected i true h k = rw (drop-cons part i 0 h, drop-cons expected i 0 k, add-one)
+same_next part expected i false h k = refl
 
-one_differs : (xs ys : List ℕ) (k : ℕ) → k < length (zip xs ys) → HoldsAt Differ (zip xs ys) k → same (map upper xs) ys ≡ false
+pub same_ended : (part expected : List ℕ) (i : ℕ) → length part ≤ i → length expected ≤ i → same (map upper (drop i part)) (drop i expected) ≡ true
 unfolding same
-one_differs [] ys k less differ = absurd (omega arith)
-one_differs (x ∷ xs) [] k less differ = absurd (omega arith)
-one_differs (x ∷ xs) (y ∷ ys) zero less differ = rw (ne_eqb _ _ (differ (x, y)))
-one_differs (x ∷ xs) (y ∷ ys) (suc k) less differ = rw (one_differs xs ys k (omega arith) differ, and-false)
-
-pub same_told : (xs ys : List ℕ) → length xs ≡ length ys → (r : Bool)
-    → MatchBool r (AllWithin Alike (zip xs ys) 0 (length (zip xs ys))) ((k : ℕ) × (k < length (zip xs ys)) × HoldsAt Differ (zip xs ys) k)
-    → r ≡ same (map upper xs) ys
-same_told xs ys long true alike = sym (all_alike xs ys long alike)
-same_told xs ys long false found = sym (one_differs xs ys found.0 found.1 found.2)
+same_ended part expected i h k = rw (drop_of_length-le part h, drop_of_length-le expected k)
