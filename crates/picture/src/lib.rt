@@ -38,8 +38,8 @@ pub fn read(text: &[u8], a: &mut [u32]) -> Finish
     accept(&words, n, a)
 }
 
-// Makes the arena the first `n` words, if it has as many and they are a sound arena. Where fewer than `n` are there, `n`
-// is more than any arena has.
+// Makes the arena the first `n` words, if it has as many and they are a sound arena. Where fewer than `n` are there,
+// `n` is more than any arena has.
 #[tactic(auto, using(crate::proofs::Decoding::accept_unlawful))]
 fn accept(words: &[u32], n: usize, a: &mut [u32]) -> Finish
     requires { greatest_length ≤ length words.now }
