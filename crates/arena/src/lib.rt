@@ -1,6 +1,7 @@
 // An allocator over one lent arena of 32-bit words. A call asks nothing of its caller: it is done as the rules say, or
-// it is refused with a reason and changes nothing. The three allocs differ in the search, and the three calls that grant
-// a block anew in the way: a function that is handed the one step would be as long as the three lines around it.
+// it is refused with a reason and changes nothing; a view hands back the block's part of the arena, or no words. The
+// three allocs differ in the search, and the three calls that grant a block anew in the way: a function that is handed
+// the one step would be as long as the three lines around it.
 #![tactic(auto)]
 
 ghost use Rattle.rules.specs.Answers.{Gives};

@@ -19,7 +19,8 @@ const PIECE: usize = 1024;
 // Room for all that they can ask for.
 const ROOM: usize = PIECE * lines::LONGEST_REPLY;
 
-// Hears a whole piece: the text has room to answer it.
+// Hears a whole piece: the text has room to answer it. `lines::hear` hears as much as there is room for; this states,
+// for the turn, that nothing is left of the piece.
 fn hear_whole(last: Heard, words: &mut [u32], piece: &[u8], out: &mut [u8]) -> Heard
     requires { length piece.now * longest_reply ≤ length out.old }
     ensures hears_all { HearsAll last.place (board_of words.old last.lent)
@@ -29,7 +30,7 @@ fn hear_whole(last: Heard, words: &mut [u32], piece: &[u8], out: &mut [u8]) -> H
     lines::hear(last, words, piece, out)
 }
 
-// Hears the end of the text.
+// Hears the end of the text: states, for the turn, that nothing is left of it.
 fn hear_end(last: Heard, words: &mut [u32], out: &mut [u8]) -> Heard
     requires { longest_reply ≤ length out.old }
     ensures hears_all { HearsAll last.place (board_of words.old last.lent)

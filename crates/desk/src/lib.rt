@@ -8,16 +8,14 @@ ghost use Rattle.desk.specs.Checks.{gate_number, bytes_gate};
 
 use layout::Reason;
 
-// Whether the words that bytes spell, four bytes each, the lowest first, are a sound arena: the reasons of every call.
+// Whether the words that bytes spell, four bytes each, the lowest first, are a sound arena; or why not: Length,
+// then Damaged.
 #[tactic(auto, using(crate::proofs::Checks::reasons))]
 fn check_words(spelled: &[u8]) -> Result<(), Reason>
     ensures { result ≡ bytes_gate spelled.now }
 {
     let n = spelled.len() / 4;
-    if spelled.len() % 4 != 0 {
-        return Err(Reason::Length);
-    }
-    if !layout::is_lawful(n) {
+    if spelled.len() % 4 != 0 || !layout::is_lawful(n) {
         return Err(Reason::Length);
     }
     let mut words = [0u32; layout::GREATEST_LENGTH];

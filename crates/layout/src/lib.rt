@@ -78,10 +78,7 @@ pub fn need(n: usize) -> usize
 pub fn block_words(size: usize) -> usize
     ensures { result ≡ size - header_words }
 {
-    if size < HEADER_WORDS {
-        return 0;
-    }
-    size - HEADER_WORDS
+    size.saturating_sub(HEADER_WORDS)
 }
 
 // A live chunk's second word, where so many words were asked for.

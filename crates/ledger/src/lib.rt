@@ -1,2 +1,3 @@
-// Demand 3: what a ledger of calls and answers shows of an arena. Statements and proofs alone: this crate has no code.
+// What any run of calls shows of an arena, by a ledger of the calls and their answers. Statements and proofs alone:
+// this crate has no code.
 #![tactic(auto)]

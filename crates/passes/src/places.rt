@@ -21,10 +21,7 @@ pub fn find(a: &[u32], b: usize) -> Option<Place>
     if a.len() <= b {
         return None;
     }
-    if b < layout::HEADER_WORDS {
-        return None;
-    }
-    let start = b - layout::HEADER_WORDS;
+    let start = b.checked_sub(layout::HEADER_WORDS)?;
     let mut link = layout::LIST_WORD;
     let mut chunk = layout::FIRST_CHUNK;
     while chunk < start {
@@ -33,10 +30,7 @@ pub fn find(a: &[u32], b: usize) -> Option<Place>
         }
         chunk += a[chunk] as usize;
     }
-    if chunk != start {
-        return None;
-    }
-    if !layout::is_live(a[chunk + 1]) {
+    if chunk != start || !layout::is_live(a[chunk + 1]) {
         return None;
     }
     Some(Place { link, chunk })

@@ -38,8 +38,8 @@ pub fn read(text: &[u8], a: &mut [u32]) -> Finish
     accept(&words, n, a)
 }
 
-// Makes the arena the first `n` words, if it has as many and they are a sound arena. That so many words can be an
-// arena's is asked before the walk asks it, since no more of them are there.
+// Makes the arena the first `n` words, if it has as many and they are a sound arena. Where fewer than `n` are there,
+// `n` is more than any arena has.
 #[tactic(auto, using(crate::proofs::Decoding::accept_unlawful))]
 fn accept(words: &[u32], n: usize, a: &mut [u32]) -> Finish
     requires { greatest_length ≤ length words.now }
@@ -48,10 +48,8 @@ fn accept(words: &[u32], n: usize, a: &mut [u32]) -> Finish
     if n != a.len() {
         return Err(Reason::Length);
     }
-    if !layout::is_lawful(n) {
-        return Err(Reason::Length);
-    }
-    walk::check_arena(&words[..n])?;
-    a.copy_from_slice(&words[..n]);
+    let words = words.get(..n).ok_or(Reason::Length)?;
+    walk::check_arena(words)?;
+    a.copy_from_slice(words);
     Ok(())
 }

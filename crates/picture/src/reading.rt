@@ -25,7 +25,8 @@ fn slot_for(i: usize, count: usize, room: usize) -> usize
     0
 }
 
-// Reads the frames of `n` words into the buffer, and tells whether the text has them all.
+// Reads the frames of `n` words into the buffer, and tells whether the text has them all. Frames and `at` go by
+// number, and no iterator cuts them: the buffer may have fewer words than the text says, and a last line is shorter.
 fn read_frames(text: &[u8], n: usize, buffer: &mut [u32]) -> bool
     requires { (frame_words ≤ length buffer.old) × (n < four_digit_values) × (length text.now ≡ picture_length n) }
     ensures { ReadsFrames text.now n result buffer.new }

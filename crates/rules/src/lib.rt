@@ -1,5 +1,6 @@
-// The rules of the calls, and every theorem that follows from them. Statements and proofs, and the records that callers
-// lend, those of a batch and next fit's rover: this crate has no function.
+// The rules of the calls, and every theorem that follows from them. Statements and proofs, and the records that they
+// speak of: those that callers lend, a batch's requests and next fit's rover, and the answer to one request. This crate
+// has no function.
 #![tactic(auto)]
 
 // One request of a batch: what is asked, a kind and two numbers, and what is answered, which is filled in.

@@ -1,4 +1,4 @@
--- A live chunk is freed: whether a free chunk ends where it starts, and the stores that free it.
+-- A live chunk is freed: the free chunk that ends where it starts, if there is one, and the stores that free it.
 use mathlib.Core.Path.{◌≡◌, refl, sym, ap, ◌∙◌}
 use mathlib.Core.Bool.{Bool, true, false, cond, true≢false}
 use mathlib.Core.List.{List, [], ◌∷◌, ◌++◌, append_assoc}
@@ -7,6 +7,8 @@ use native.Mathlib.Omega.{arith}
 use lib.Dec.{leb, eqb}
 use lib.ListN.{get_or, set}
 use borrow.Author.Tests.{leb-true, leb-false, le-leb, lt-leb, eq-eqb, ne_eqb}
+use Rattle.std.specs.Prelude.{Option, None, Some}
+use Rattle.std.proofs.lemmas.Option.{same_Some}
 use Rattle.layout.specs.Numbers.{first_chunk, list_word}
 use Rattle.layout.specs.Chunks.{Chunk, free, live, total, header, write, written}
 use Rattle.layout.specs.Walk.{chunks_of}
@@ -17,29 +19,32 @@ use Rattle.layout.proofs.Replace.{replaced_same}
 use Rattle.rules.specs.Rules.{join, joined}
 use Rattle.rules.specs.Rooms.{room_words, room_after}
 use Rattle.passes.specs.Places.{Placed}
-use Rattle.stores.specs.RoomAt.{HasRoom, ends_at, room_written}
+use Rattle.stores.specs.RoomAt.{HasRoom, free_before, room_written}
 use Rattle.stores.specs.declared.release.Room.{Room}
 use Rattle.passes.proofs.Standing.{placed_at, reads}
 use Rattle.rules.proofs.Joining.{Closed, spaced_after, joined_spaced, joined_front, Ending, closed, in_free, ending}
 use Rattle.rules.proofs.Rooms.{room_tail, room_parts, room_words_lem, room_joins}
 use Rattle.stores.proofs.RoomReading.{bounds, become}
 
--- ---- the test
+-- ---- the free chunk before
 
-pub ends_none : (a : List ℕ) (link chunk : ℕ) → link ≤ list_word → ends_at a link chunk ≡ false
-unfolding ends_at
-ends_none a link chunk h = rw (le-leb link list_word h)
+pub before_none : (a : List ℕ) (link chunk : ℕ) → link ≤ list_word → free_before a link chunk ≡ None
+unfolding free_before
+before_none a link chunk h = rw (le-leb link list_word h)
 
-pub ends_where : (a : List ℕ) (link chunk : ℕ) → list_word < link → ends_at a link chunk ≡ eqb (get_or a (link - 1) 0) (chunk - (link - 1))
-unfolding ends_at
-ends_where a link chunk h = rw (lt-leb link list_word h)
+pub before_where : (a : List ℕ) (link chunk : ℕ) → list_word < link
+    → free_before a link chunk ≡ cond (eqb (get_or a (link - 1) 0) (chunk - (link - 1))) (Some (link - 1)) None
+unfolding free_before
+before_where a link chunk h = rw (lt-leb link list_word h)
 
-pub ends_link : (a : List ℕ) (link chunk : ℕ) → ends_at a link chunk ≡ true → list_word < link
-ends_link a link chunk e = go (leb link list_word) refl
+pub before_link : (a : List ℕ) (link chunk left : ℕ) → free_before a link chunk ≡ Some left → link ≡ left + 1
+unfolding free_before
+before_link a link chunk left = go (leb link list_word) (eqb (get_or a (link - 1) 0) (chunk - (link - 1))) refl
   where
-    go : (low : Bool) → leb link list_word ≡ low → list_word < link
-    go true l = absurd (true≢false (sym e ∙ ends_none a link chunk (leb-true _ _ l)))
-    go false l = leb-false _ _ l
+    go : (low ends : Bool) → leb link list_word ≡ low → cond low None (cond ends (Some (link - 1)) None) ≡ Some left → link ≡ left + 1
+    go true ends l e = absurd (let z : ◌≡◌ {A = ℕ} 0 1 = cc in omega arith)
+    go false true l e = omega (arith, leb-false _ _ l, same_Some _ _ e)
+    go false false l e = absurd (let z : ◌≡◌ {A = ℕ} 0 1 = cc in omega arith)
 
 -- the least distance from the end of the last free chunk, where `before` says that it ends here
 abbrev between : Bool → ℕ
@@ -75,11 +80,11 @@ module _ {a : List ℕ} {pre : List Chunk} {s asked : ℕ} {post : List Chunk} {
       ap (join (free s)) (joined_spaced false post p) ∙ room_joins s post ∙ ap (λ (w : ℕ). free w ∷ room_after post) (sym has.words_are)
 
   -- no free chunk stands before it
-  alone_ends : Closed false pre → ends_at a link chunk ≡ false
-  alone_ends q = go (leb link list_word) refl
+  alone_before : Closed false pre → free_before a link chunk ≡ None
+  alone_before q = go (leb link list_word) refl
     where
-      go : (low : Bool) → leb link list_word ≡ low → ends_at a link chunk ≡ false
-      go true e = ends_none a link chunk (leb-true _ _ e)
+      go : (low : Bool) → leb link list_word ≡ low → free_before a link chunk ≡ None
+      go true e = before_none a link chunk (leb-true _ _ e)
       go false e =
           let r = reads a pre (live s asked) post link chunk st in
           let l : list_word < link = leb-false _ _ e in
@@ -87,7 +92,8 @@ module _ {a : List ℕ} {pre : List Chunk} {s asked : ℕ} {post : List Chunk} {
           let b : link - 1 + get_or a (link - 1) 0 < first_chunk + total pre =
           rw st.link_is (ends_before a false list_word first_chunk pre _ r.sizes_before h q (λ n. absurd (omega arith)) (rw st.link_is at l))
           in
-          ends_where a link chunk l ∙ ne_eqb (get_or a (link - 1) 0) (chunk - (link - 1)) (omega (arith, placed_at st))
+          before_where a link chunk l
+          ∙ rw (ne_eqb (get_or a (link - 1) 0) (chunk - (link - 1)) (omega (arith, placed_at st)))
 
   alone_stores : Closed false pre → header chunk room.words room.next (set a link chunk) ≡ written (joined (pre ++ free s ∷ post)) a
   unfolding write room_written
@@ -110,40 +116,40 @@ module _ {a : List ℕ} {pre : List Chunk} {s asked : ℕ} {post : List Chunk} {
           record { is_sound = st.is_sound; stands = record { same = same; number_is = omega arith }; link_is = refl },
         )
 
-    left_ends : ends_at a link chunk ≡ true
-    left_ends =
+    left_before : free_before a link chunk ≡ Some left
+    left_before =
         let (l, c, t) = left_stands in
         let r = reads a front (free u) (live s asked ∷ post) _ left t in
         let w : link - 1 ≡ left = omega arith in
-        ends_where a link chunk (omega arith) ∙ eq-eqb (get_or a (link - 1) 0) (chunk - (link - 1)) (rw (w, r.size_is) (omega arith))
+        before_where a link chunk (omega arith)
+        ∙ rw (eq-eqb (get_or a (link - 1) 0) (chunk - (link - 1)) (rw (w, r.size_is) (omega arith)), w)
 
     left_stores : Closed false front → Spaced false front
-        → header (link - 1) (chunk - (link - 1) + room.words) room.next a ≡ written (joined (pre ++ free s ∷ post)) a
+        → header left (chunk - left + room.words) room.next a ≡ written (joined (pre ++ free s ∷ post)) a
     unfolding write joined
     left_stores q p =
         let (l, c, t) = left_stands in
         let r = reads a front (free u) (live s asked ∷ post) _ left t in
         let b = bounds st has in
-        let w : link - 1 ≡ left = omega arith in
         let v : chunk - left ≡ u = omega arith in
         let e : joined (pre ++ free s ∷ post) ≡ front ++ free (u + room.words) ∷ room_after post =
         rw (is, append_assoc) (joined_front false front (free u ∷ free s ∷ post) p q
         ∙ ap (λ (ks : List Chunk). front ++ join (free u) ks) freed_joins) in
         let old : Arena a (front ++ (free u ∷ live s asked ∷ room_tail post ++ room_after post)) = rw (room_parts post) at r.arena in
-        rw (e, w, v, has.next_is)
+        rw (e, v, has.next_is)
         (sym (
         replaced_same a front (free u ∷ live s asked ∷ room_tail post) (free (u + room.words) ∷ []) (room_after post) left (chunk + room_words s post) old at
         (omega (arith, room_words_lem s post)) (omega (arith, r.even, b.even), omega arith, tt)
         (omega (arith, has.words_are, room_words_lem s post)) refl))
 
-  -- what the code stores, where `ends` is what the test says
-  abbrev stored : Bool → List ℕ
-  stored ends =
-      cond ends (header (link - 1) (chunk - (link - 1) + room.words) room.next a) (header chunk room.words room.next (set a link chunk))
+  -- what the code stores, where `before` is the start of the free chunk that ends at it
+  abbrev stored : Option ℕ → List ℕ
+  stored (Some left) = header left (chunk - left + room.words) room.next a
+  stored None = header chunk room.words room.next (set a link chunk)
 
-  pub releases : (ends : Bool) → ends_at a link chunk ≡ ends → stored ends ≡ written (joined (pre ++ free s ∷ post)) a
-  releases ends e = go (ending pre (spaced_left false pre (live s asked ∷ post) (reads a pre (live s asked) post link chunk st).arena.law.spaced))
+  pub releases : (before : Option ℕ) → free_before a link chunk ≡ before → stored before ≡ written (joined (pre ++ free s ∷ post)) a
+  releases before e = go (ending pre (spaced_left false pre (live s asked ∷ post) (reads a pre (live s asked) post link chunk st).arena.law.spaced))
     where
-      go : Ending pre → stored ends ≡ written (joined (pre ++ free s ∷ post)) a
-      go (closed q) = rw (sym e ∙ alone_ends q) (alone_stores q)
-      go (in_free front u is q p) = rw (sym e ∙ left_ends front u _ is refl) (left_stores front u _ is refl q p)
+      go : Ending pre → stored before ≡ written (joined (pre ++ free s ∷ post)) a
+      go (closed q) = rw (sym e ∙ alone_before q) (alone_stores q)
+      go (in_free front u is q p) = rw (sym e ∙ left_before front u _ is refl) (left_stores front u _ is refl q p)

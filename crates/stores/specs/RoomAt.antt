@@ -1,5 +1,5 @@
 -- The room of the live chunk at a word, and the chunk that is freed with it.
-use Rattle.std.specs.Prelude.{ℕ, ◌+◌, ◌-◌, ◌≡◌, Bool, false, cond, List, get_or, set, leb, eqb}
+use Rattle.std.specs.Prelude.{ℕ, ◌+◌, ◌-◌, ◌≡◌, cond, List, get_or, set, leb, eqb, Option, None, Some}
 use Rattle.layout.specs.Numbers.{list_word}
 use Rattle.layout.specs.Chunks.{Chunk, live, first_free, write, written}
 use Rattle.rules.specs.Spots.{at}
@@ -27,6 +27,6 @@ FreedAt a link chunk after =
 unfoldable pub room_written : ℕ → ℕ → List Chunk → ℕ → List ℕ → List ℕ
 room_written link chunk new next a = write chunk new next (set a link (first_free chunk new next))
 
--- the free chunk whose second word is `link` ends at `chunk`
-unfoldable pub ends_at : List ℕ → ℕ → ℕ → Bool
-ends_at a link chunk = cond (leb link list_word) false (eqb (get_or a (link - 1) 0) (chunk - (link - 1)))
+-- the start of the free chunk whose second word is `link`, if it ends at `chunk`
+unfoldable pub free_before : List ℕ → ℕ → ℕ → Option ℕ
+free_before a link chunk = cond (leb link list_word) None (cond (eqb (get_or a (link - 1) 0) (chunk - (link - 1))) (Some (link - 1)) None)

@@ -1,7 +1,7 @@
 // Freeing a chunk, and the room that it has with the free chunk after it.
 ghost use Rattle.std.specs.Prelude.{◌≡◌, ◌<◌, length};
 ghost use Rattle.passes.specs.Places.{LiveAt};
-ghost use Rattle.stores.specs.RoomAt.{RoomAt, FreedAt, ends_at};
+ghost use Rattle.stores.specs.RoomAt.{RoomAt, FreedAt, free_before};
 
 use passes::places::Place;
 
@@ -29,17 +29,17 @@ pub fn room_at(a: &[u32], place: Place) -> Room
     Room { words: size, next }
 }
 
-// Whether the free chunk whose second word is the place's link word ends where the place's chunk starts.
-#[tactic(auto, using(crate::proofs::Releasing::ends_none, crate::proofs::Releasing::ends_where))]
-fn ends_at(a: &[u32], place: Place) -> bool
+// The start of the free chunk whose second word is the place's link word, if it ends where the place's chunk starts.
+#[tactic(auto, using(crate::proofs::Releasing::before_none, crate::proofs::Releasing::before_where))]
+fn free_before(a: &[u32], place: Place) -> Option<usize>
     requires { (place.link < place.chunk) × (place.chunk < length a.now) }
-    ensures { result ≡ ends_at a.now place.link place.chunk }
+    ensures { result ≡ free_before a.now place.link place.chunk }
 {
     if place.link <= layout::LIST_WORD {
-        return false;
+        return None;
     }
     let left = place.link - 1;
-    a[left] as usize == place.chunk - left
+    (a[left] as usize == place.chunk - left).then_some(left)
 }
 
 // Frees the live chunk at a place: merges it with a free chunk right after it, then with one right before it.
@@ -48,11 +48,11 @@ pub fn release(a: &mut [u32], place: Place)
     ensures { FreedAt a.old place.link place.chunk a.new }
 {
     let Room { words, next } = room_at(a, place);
-    if ends_at(a, place) {
-        let left = place.link - 1;
-        super::put(a, left, place.chunk - left + words, next);
-        return;
+    match free_before(a, place) {
+        Some(left) => super::put(a, left, place.chunk - left + words, next),
+        None => {
+            super::change(a, place.link, place.chunk);
+            super::put(a, place.chunk, words, next);
+        }
     }
-    super::change(a, place.link, place.chunk);
-    super::put(a, place.chunk, words, next);
 }

@@ -12,7 +12,7 @@ use layout::{Ask, Reason};
 use passes::places;
 use passes::places::Place;
 
-// A request for `n` words in an arena of `words` words.
+// What a request for `n` words in an arena of `words` words comes to, or why it is refused.
 #[tactic(auto, using(rules::proofs::Gates::request_small), unfolding(crate::specs::Targets::need_in))]
 fn need_in(words: usize, n: u32) -> Result<Ask, Reason>
     requires { lawful words ≡ true }

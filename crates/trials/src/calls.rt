@@ -21,8 +21,8 @@ fn roved_numbers(roved: Roved) -> Numbers
 }
 
 // Makes the call of number `call` on the arena; a number that names none of these ten is answered as a malformed line
-// is. Where a rover is lent, it is `b`. A call's number comes from a test, and is read here alone: an enum would say the
-// same rows once more.
+// is. Where a rover is lent, it is `b`. A call's number comes from a test, and is read in two matches, here and, for
+// the two views, in `reply_to`: an enum would say the same rows once more.
 #[tactic(auto, using(answers::proofs::Padded::settled), unfolding(crate::specs::Trials::outcome_of))]
 pub(crate) fn answer(call: u32, b: u32, n: u32, a: &mut [u32]) -> Numbers
     ensures { Settles (outcome_of call b n a.old) result a.new }

@@ -30,8 +30,8 @@ pub fn numbers(reply: Reply) -> [u32; 6]
     ]
 }
 
-// Makes the call of a trial; what a view hands back is copied to the start of `part`, which is as long as the arena: the
-// caller's two slices, whose lengths no type joins.
+// Makes the call of a trial; what a view hands back is copied to the start of `part`, which is at least as long as the
+// arena: the caller's two slices, whose lengths no type joins.
 pub fn reply_to(call: u32, b: u32, n: u32, a: &mut [u32], part: &mut [u32]) -> Reply
     requires { length a.old ≤ length part.old }
     ensures { Replies call b n a.old result a.new part.new }

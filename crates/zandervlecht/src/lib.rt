@@ -1,6 +1,6 @@
-// The calls for C: each returns its code, and stores the fields of its answer into a lent array; `zv_batch` stores both
-// into its records. The header is include/zandervlecht.h. A view needs no function: it is the words from the block's
-// number on, as many as `zv_size` answers granted.
+// The calls for C: each returns its code, and stores the fields of its answer, if it has any, into a lent array;
+// `zv_batch` stores both into its records. The header is include/zandervlecht.h. A view needs no function: it is the
+// words from the block's number on, as many as `zv_size` answers granted.
 #![tactic(auto)]
 
 ghost use Rattle.std.specs.Prelude.{◌≡◌, []};
@@ -22,7 +22,7 @@ pub extern "C" fn zv_start(a: &mut [u32]) -> u32
     telling::tell(arena::start(a), &mut [])
 }
 
-// Grants a block of at least `n` words.
+// Grants a block of at least `n` words by first fit.
 #[unsafe(no_mangle)]
 pub extern "C" fn zv_alloc(a: &mut [u32], n: u32, answer: &mut [u32; 2]) -> u32
     ensures { Gives (alloc_on a.old n) (returned result answer.new) a.new }
