@@ -4,7 +4,6 @@
 mod reply;
 
 ghost use Rattle.std.specs.Prelude.{◌≡◌, ◌≤◌, length};
-ghost use Rattle.requests.specs.Requests.{kind_of};
 ghost use Rattle.requests.specs.declared.Request.TheVariants.{Start};
 ghost use Rattle.replies.specs.Boards.{lending, replied};
 ghost use Rattle.replies.specs.Answering.{Ready, Makes, Answers};
@@ -34,24 +33,10 @@ pub fn answer(request: Request, words: &mut [u32], lent: usize, out: &mut [u8], 
         words.new result.lent at out.old result.end out.new }
 {
     let made = make(request, words, lent);
-    let end = reply::put_reply(out, at, kind(request), made.numbers);
+    let end = reply::put_reply(out, at, request.kind(), made.numbers);
     Said {
         lent: made.lent,
         end,
-    }
-}
-
-// The number of a request's kind, which its reply repeats.
-fn kind(request: Request) -> u32
-    ensures { result ≡ kind_of request }
-{
-    match request {
-        Request::Start(_) => 1,
-        Request::Alloc(_) => 2,
-        Request::Free(_) => 3,
-        Request::Realloc(_, _) => 4,
-        Request::Report => 5,
-        Request::Malformed => 0,
     }
 }
 
@@ -91,16 +76,16 @@ fn start(n: usize, words: &mut [u32], lent: usize) -> Made
     requires { lent ≤ length words.old }
     ensures { Makes (Start n) (lending words.old lent) words.new result.lent result.numbers }
 {
-    if words.len() < n {
-        return Made {
-            lent,
-            numbers: answers::refusal_numbers(0, Reason::Length),
-        };
-    }
-    let finish = arena::start(&mut words[..n]);
-    let numbers = answers::in_numbers(finish);
-    match finish {
-        Ok(()) => Made { lent: n, numbers },
-        Err(_) => Made { lent, numbers },
+    let finish = if words.len() < n {
+        Err(Reason::Length)
+    } else {
+        arena::start(&mut words[..n])
+    };
+    Made {
+        lent: match finish {
+            Ok(()) => n,
+            Err(_) => lent,
+        },
+        numbers: answers::in_numbers(finish),
     }
 }
