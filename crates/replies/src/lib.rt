@@ -15,7 +15,8 @@ use layout::Reason;
 use requests::Request;
 
 // A buffer of words, of which the first `lent` are lent to the calls: how many is a number beside all words, since a
-// start may lend more of them.
+// start may lend more of them. Each method says that `words` is still the same reference: so the words of who made the
+// board are what the board leaves.
 #[derive(Drop)]
 pub struct Board<'a> {
     pub words: &'a mut [u32],
