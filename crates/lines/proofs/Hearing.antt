@@ -16,7 +16,7 @@ use Rattle.requests.specs.declared.Place.{Place}
 use Rattle.replies.specs.Boards.{Board, lending, longest_reply, replied}
 use Rattle.lines.specs.Pieces.{Hearing, hears, ending, answerable, HearsAll}
 use Rattle.replies.specs.Answering.{Answers}
-use Rattle.lines.specs.OneByte.{HearsByte}
+use Rattle.lines.specs.OneByte.{HearsByte, HearsBytes}
 use Rattle.lines.specs.declared.Heard.{Heard}
 use Rattle.lines.proofs.Cutting.{hears_append}
 
@@ -53,18 +53,8 @@ more_heard place words lent b at room other fits =
 
 -- ---- a run of bytes
 
--- these bytes have been heard: the reader's place, the words, and the replies in the lent text; none is longer than the
--- longest
-pub record HeardSoFar (from : Place) (on : Board) (bytes room : List ℕ) (place : Place) (lent written : ℕ) (words text : List ℕ) : Type 0 where
-  pub places : place ≡ (hears from on bytes).place
-  pub lends : lent ≡ (hears from on bytes).board.lent
-  pub stores : words ≡ (hears from on bytes).board.words
-  pub puts : Puts 0 (hears from on bytes).replies room written text
-  pub few : written ≤ length bytes * longest_reply
-  pub lendable : lent ≤ length words
-
 pub none_heard : (from : Place) (words room : List ℕ) (lent : ℕ) → lent ≤ length words
-    → HeardSoFar from (lending words lent) [] room from lent 0 words room
+    → HearsBytes from (lending words lent) [] room from lent 0 words room
 unfolding hears
 none_heard from words room lent fits =
     record { places = refl; lends = refl; stores = refl; puts = record { ends = refl; says = refl }; few = omega arith; lendable = fits }
@@ -72,8 +62,8 @@ none_heard from words room lent fits =
 -- one byte more
 pub heard_on : (from : Place) (on : Board) (bytes room : List ℕ) (place : Place) (lent written : ℕ) (words text : List ℕ)
     (b : ℕ) (next : Place) (lent' end : ℕ) (words' text' : List ℕ)
-    → HeardSoFar from on bytes room place lent written words text → HearsByte place (lending words lent) b next words' lent' written text end text'
-    → HeardSoFar from on (bytes ++ b ∷ []) room next lent' end words' text'
+    → HearsBytes from on bytes room place lent written words text → HearsByte place (lending words lent) b next words' lent' written text end text'
+    → HearsBytes from on (bytes ++ b ∷ []) room next lent' end words' text'
 heard_on from on bytes room place lent written words text b next lent' end words' text' so byte =
     let before = hears from on bytes in
     let known : hears place (lending words lent) (b ∷ []) ≡ hears before.place before.board (b ∷ []) = rw (so.places, so.lends, so.stores) in
@@ -111,7 +101,7 @@ answerable_taken piece room most e = go (leb (length room / longest_reply) (leng
 
 pub all_heard : (from : Place) (on : Board) (bytes room : List ℕ) (heard : Heard) (words text : List ℕ)
     → heard.taken ≡ length bytes → length bytes * longest_reply ≤ length room
-    → HeardSoFar from on bytes room heard.place heard.lent heard.written words text → HearsAll from on bytes room heard words text
+    → HearsBytes from on bytes room heard.place heard.lent heard.written words text → HearsAll from on bytes room heard words text
 all_heard from on bytes room heard words text taken roomy so =
     let replies = (hears from on bytes).replies in
     let none : 0 + length replies ≡ length replies = omega arith in

@@ -1,12 +1,12 @@
 // Request lines: a text is heard piece by piece, and each line of it is answered by a call on the lent words.
 #![tactic(auto)]
 
-ghost use Rattle.std.specs.Prelude.{◌≡◌};
-ghost use Rattle.replies.specs.Boards.{lending};
+ghost use Rattle.std.specs.Prelude.{◌≡◌, ◌+◌, ◌*◌, ◌≤◌, length};
+ghost use Rattle.replies.specs.Boards.{lending, longest_reply};
 ghost use Rattle.lines.specs.Pieces.{nothing_heard, ending, board_of, answerable, HearsAll};
-ghost use Rattle.replies.specs.Answering.{Ready};
-ghost use Rattle.lines.specs.OneByte.{HearsByte};
+ghost use Rattle.lines.specs.OneByte.{HearsByte, HearsBytes};
 
+use replies::Board;
 pub use requests::Place;
 
 // The longest reply, that of a report, in bytes.
@@ -34,26 +34,40 @@ pub fn nothing_heard() -> Heard
     }
 }
 
-// Hears one byte: the end of a line, which is answered, or one more byte of it.
-fn hear_byte(heard: Heard, b: u8, words: &mut [u32], out: &mut [u8]) -> Heard
-    requires { Ready words.old heard.lent out.old heard.written }
-    ensures { HearsByte heard.place (lending words.old heard.lent) b
-        result.place words.new result.lent heard.written out.old result.written out.new }
+// Hears one byte: the end of a line, which is answered, or one more byte of it. Gives the place after it, and where its
+// reply ends.
+fn hear_byte(
+    place: Place,
+    b: u8,
+    board: &mut Board<'_>,
+    out: &mut [u8],
+    at: usize,
+) -> (Place, usize)
+    requires { at + longest_reply ≤ length out.old }
+    ensures same_reference { board.new.words.ghost_name ≡ board.old.words.ghost_name }
+    ensures heard { HearsByte place (lending board.old.words.now board.old.lent) b
+        result.0 board.new.words.now board.new.lent at out.old result.1 out.new }
 {
     if b == b'\n' {
-        let request = requests::request_at(heard.place);
-        let said = replies::answer(request, words, heard.lent, out, heard.written);
-        return Heard {
-            place: requests::at_start(),
-            lent: said.lent,
-            written: said.end,
-            ..heard
-        };
+        let end = board.answer(requests::request_at(place), out, at);
+        return (requests::at_start(), end);
     }
-    Heard {
-        place: requests::onward(heard.place, b),
-        ..heard
+    (requests::onward(place, b), at)
+}
+
+// Hears these bytes, one after the other; `out` has room to answer them all.
+fn hear_bytes(from: Place, bytes: &[u8], board: &mut Board<'_>, out: &mut [u8]) -> (Place, usize)
+    requires { length bytes.now * longest_reply ≤ length out.old }
+    ensures same_reference { board.new.words.ghost_name ≡ board.old.words.ghost_name }
+    ensures heard { HearsBytes from (lending board.old.words.now board.old.lent) bytes.now out.old
+        result.0 board.new.lent result.1 board.new.words.now out.new }
+{
+    let mut place = from;
+    let mut end = 0;
+    for &b in bytes {
+        (place, end) = hear_byte(place, b, board, out, end);
     }
+    (place, end)
 }
 
 // Goes on from `last` with a piece of the text: hears as many bytes of it as `out` has room to answer, and writes the
@@ -63,17 +77,16 @@ pub fn hear(last: Heard, words: &mut [u32], piece: &[u8], out: &mut [u8]) -> Hea
         (answerable piece.now out.old) out.old result words.new out.new }
 {
     let most = piece.len().min(out.len() / LONGEST_REPLY);
-    let mut heard = Heard {
-        lent: last.lent.min(words.len()),
-        taken: 0,
-        written: 0,
-        ..last
-    };
-    for &b in &piece[..most] {
-        heard = hear_byte(heard, b, words, out);
+    let bytes = &piece[..most];
+    let lent = last.lent.min(words.len());
+    let mut board = Board { words, lent };
+    let (place, written) = hear_bytes(last.place, bytes, &mut board, out);
+    Heard {
+        place,
+        lent: board.lent,
+        taken: most,
+        written,
     }
-    heard.taken = most;
-    heard
 }
 
 // Goes on from `last` with the end of the text: a line that has no end is answered if something has come of it.

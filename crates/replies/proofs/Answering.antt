@@ -105,17 +105,6 @@ lent_made request words lent after answer stays keeps fits kept gives told =
     ∙ ap (λ (a : List ℕ). lending a lent) (take-append-drop lent words))
     (omega (arith, fits, kept))
 
--- one that stores nothing
-pub read_made : (request : Request) (words : List ℕ) (lent : ℕ) (answer : Answer) {numbers : Numbers}
-    → lent_after request (lending words lent) ≡ lent → lent ≤ length words
-    → Gives (outcome_of request (lending words lent)) answer (take lent words) → numbers ≡ padded answer
-    → Makes request (lending words lent) words lent numbers
-read_made request words lent answer stays fits gives told =
-    request_made request (lending words lent) words lent (take lent words) answer gives told
-    (λ is. ap (λ (a : List ℕ). lending a lent) (sym (take-append-drop lent words))
-    ∙ ap (λ (n : ℕ). with_lent (lending words lent) n (take lent words)) (sym stays))
-    (λ not. refl) fits
-
 -- ---- a start
 
 -- a refusal is not done

@@ -1,15 +1,10 @@
 -- What the functions inside promise of a request that is answered; no public contract cites it.
-use Rattle.std.specs.Prelude.{ℕ, ◌+◌, ◌≤◌, ◌≡◌, List, length}
+use Rattle.std.specs.Prelude.{ℕ, ◌≤◌, ◌≡◌, List, length}
 use Rattle.digits.specs.Putting.{Puts}
 use Rattle.answers.specs.Padded.{padded}
 use Rattle.answers.specs.declared.Numbers.{Numbers}
 use Rattle.requests.specs.declared.Request.{Request}
 use Rattle.replies.specs.Boards.{Board, lending, longest_reply, outcome_of, Replied, replied}
-
--- no more words are lent than there are, and the text has room for a reply at `at`
-pub record Ready (words : List ℕ) (lent : ℕ) (room : List ℕ) (at : ℕ) : Type 0 where
-  pub lendable : lent ≤ length words
-  pub roomy : at + longest_reply ≤ length room
 
 -- a request's call is made: the board afterwards, as its words and how many of them are lent, and the answer in numbers
 pub record Makes (request : Request) (on : Board) (words : List ℕ) (lent : ℕ) (numbers : Numbers) : Type 0 where

@@ -3,104 +3,66 @@
 
 mod reply;
 
-ghost use Rattle.std.specs.Prelude.{◌≡◌, ◌≤◌, length};
-ghost use Rattle.requests.specs.Requests.{kind_of};
+ghost use Rattle.std.specs.Prelude.{◌≡◌, ◌+◌, ◌≤◌, length};
 ghost use Rattle.requests.specs.declared.Request.TheVariants.{Start};
-ghost use Rattle.replies.specs.Boards.{lending, replied};
-ghost use Rattle.replies.specs.Answering.{Ready, Makes, Answers};
+ghost use Rattle.answers.specs.Padded.{padded};
+ghost use Rattle.answers.specs.Readings.{read, no_fields};
+ghost use Rattle.replies.specs.Boards.{lending, longest_reply, replied};
+ghost use Rattle.replies.specs.Answering.{Makes, Answers};
 
 use answers::Numbers;
 use layout::Reason;
 use requests::Request;
 
-// How many words are lent after a reply, and where it ends.
-#[derive(Clone, Copy)]
-pub struct Said {
+// A buffer of words, of which the first `lent` are lent to the calls: how many is a number beside all words, since a
+// start may lend more of them. Each method says that `words` is still the same reference: so the words of who made the
+// board are what the board leaves.
+#[derive(Drop)]
+pub struct Board<'a> {
+    pub words: &'a mut [u32],
     pub lent: usize,
-    pub end: usize,
+    ghost lendable: { lent ≤ length words.now },
 }
 
-// How many words are lent once a request's call is made, and what it answered.
-#[derive(Clone, Copy)]
-struct Made {
-    lent: usize,
-    numbers: Numbers,
-}
-
-// Answers a request; the reply is put at `at`.
-pub fn answer(request: Request, words: &mut [u32], lent: usize, out: &mut [u8], at: usize) -> Said
-    requires { Ready words.old lent out.old at }
-    ensures { Answers (replied request (lending words.old lent))
-        words.new result.lent at out.old result.end out.new }
-{
-    let made = make(request, words, lent);
-    let end = reply::put_reply(out, at, kind(request), made.numbers);
-    Said {
-        lent: made.lent,
-        end,
+impl<'a> Board<'a> {
+    // Answers a request; the reply is put at `at`, and where it ends is given.
+    pub fn answer(&mut self, request: Request, out: &mut [u8], at: usize) -> usize
+        requires { at + longest_reply ≤ length out.old }
+        ensures same_reference { self.new.words.ghost_name ≡ self.old.words.ghost_name }
+        ensures answered { Answers (replied request (lending self.old.words.now self.old.lent))
+            self.new.words.now self.new.lent at out.old result out.new }
+    {
+        let numbers = self.make(request);
+        reply::put_reply(out, at, request.kind(), numbers)
     }
-}
 
-// The number of a request's kind, which its reply repeats.
-fn kind(request: Request) -> u32
-    ensures { result ≡ kind_of request }
-{
-    match request {
-        Request::Start(_) => 1,
-        Request::Alloc(_) => 2,
-        Request::Free(_) => 3,
-        Request::Realloc(_, _) => 4,
-        Request::Report => 5,
-        Request::Malformed => 0,
+    // Makes a request's call on the lent words; a malformed line makes none.
+    fn make(&mut self, request: Request) -> Numbers
+        ensures same_reference { self.new.words.ghost_name ≡ self.old.words.ghost_name }
+        ensures made { Makes request (lending self.old.words.now self.old.lent) self.new.words.now self.new.lent result }
+    {
+        let lent_words = &mut self.words[..self.lent];
+        match request {
+            Request::Start(n) => answers::in_numbers(self.start(n as usize)),
+            Request::Alloc(n) => answers::in_numbers(arena::alloc(lent_words, n)),
+            Request::Free(b) => answers::in_numbers(arena::free(lent_words, b)),
+            Request::Realloc(b, n) => answers::in_numbers(arena::realloc(lent_words, b, n)),
+            Request::Report => answers::in_numbers(arena::report(lent_words)),
+            Request::Malformed => answers::refusal_numbers(0, Reason::Frame),
+        }
     }
-}
 
-// Makes a request's call on the lent words; a malformed line makes none. How many are lent is a number beside all words,
-// since a start may lend more of them.
-fn make(request: Request, words: &mut [u32], lent: usize) -> Made
-    requires { lent ≤ length words.old }
-    ensures { Makes request (lending words.old lent) words.new result.lent result.numbers }
-{
-    match request {
-        Request::Start(n) => start(n as usize, words, lent),
-        Request::Alloc(n) => Made {
-            lent,
-            numbers: answers::in_numbers(arena::alloc(&mut words[..lent], n)),
-        },
-        Request::Free(b) => Made {
-            lent,
-            numbers: answers::in_numbers(arena::free(&mut words[..lent], b)),
-        },
-        Request::Realloc(b, n) => Made {
-            lent,
-            numbers: answers::in_numbers(arena::realloc(&mut words[..lent], b, n)),
-        },
-        Request::Report => Made {
-            lent,
-            numbers: answers::in_numbers(arena::report(&words[..lent])),
-        },
-        Request::Malformed => Made {
-            lent,
-            numbers: answers::refusal_numbers(0, Reason::Frame),
-        },
-    }
-}
-
-// A start lends the first `n` words; one that is refused changes nothing.
-fn start(n: usize, words: &mut [u32], lent: usize) -> Made
-    requires { lent ≤ length words.old }
-    ensures { Makes (Start n) (lending words.old lent) words.new result.lent result.numbers }
-{
-    if words.len() < n {
-        return Made {
-            lent,
-            numbers: answers::refusal_numbers(0, Reason::Length),
-        };
-    }
-    let finish = arena::start(&mut words[..n]);
-    let numbers = answers::in_numbers(finish);
-    match finish {
-        Ok(()) => Made { lent: n, numbers },
-        Err(_) => Made { lent, numbers },
+    // A start lends the first `n` words; one that is refused changes nothing.
+    fn start(&mut self, n: usize) -> Result<(), Reason>
+        ensures same_reference { self.new.words.ghost_name ≡ self.old.words.ghost_name }
+        ensures made { Makes (Start n) (lending self.old.words.now self.old.lent)
+            self.new.words.now self.new.lent (padded (read no_fields 0 result)) }
+    {
+        if self.words.len() < n {
+            return Err(Reason::Length);
+        }
+        arena::start(&mut self.words[..n])?;
+        self.lent = n;
+        Ok(())
     }
 }

@@ -2,6 +2,7 @@
 #![tactic(auto)]
 
 ghost use Rattle.std.specs.Prelude.{◌≡◌};
+ghost use Rattle.requests.specs.Requests.{kind_of};
 ghost use Rattle.requests.specs.LinePlaces.{at_start, request_at};
 ghost use Rattle.requests.specs.LinePlaces.{onward as onward_from};
 
@@ -40,6 +41,22 @@ pub enum Request {
     Realloc(u32, u32),
     Report,
     Malformed,
+}
+
+impl Request {
+    // The number of its kind, which its reply repeats.
+    pub fn kind(self) -> u32
+        ensures { result ≡ kind_of self }
+    {
+        match self {
+            Request::Start(_) => 1,
+            Request::Alloc(_) => 2,
+            Request::Free(_) => 3,
+            Request::Realloc(_, _) => 4,
+            Request::Report => 5,
+            Request::Malformed => 0,
+        }
+    }
 }
 
 // The place at the start of a line.
