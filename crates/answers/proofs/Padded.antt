@@ -30,6 +30,12 @@ pub read_count : {A : Type 0} {values : A → List ℕ} {count : ℕ} → FieldL
 read_count laws (Ok it) = laws.counted it
 read_count {count = count} laws (Err why) = length-replicate count 0
 
+-- so nothing is lost of any answer that keeps to the laws
+pub read_told : {A : Type 0} {values : A → List ℕ} {count : ℕ} → FieldLaws values count → (answer : Result A Reason)
+    → answer_in (padded (read values count answer)) ≡ read values count answer
+read_told {values = values} {count = count} laws answer =
+    padded_told (read values count answer) (omega (arith, read_count laws answer, laws.few))
+
 -- a call gives an answer, and these are that answer's numbers
 pub settled : {outcome : Outcome} {answer : Answer} {words : List ℕ} {numbers : Numbers} → Gives outcome answer words → numbers ≡ padded answer
     → Settles outcome numbers words

@@ -1,8 +1,7 @@
 -- The code and the fields that go into a lent array are together the answer.
-use Prim.Native.Nat.{ℕ, ◌≤◌}
+use Prim.Native.Nat.{ℕ}
 use mathlib.Core.Path.{◌≡◌, sym, ap, ◌∙◌}
 use mathlib.Core.List.{List}
-use native.Mathlib.Omega.{arith}
 use lib.ListN.{take}
 use Rattle.layout.specs.declared.Reason.{Reason}
 use Rattle.rules.specs.Answers.{Answer, Outcome}
@@ -11,7 +10,7 @@ use Rattle.answers.specs.Readings.{read}
 use Rattle.answers.specs.Padded.{four, padded}
 use Rattle.answers.specs.Determined.{Determined}
 use Rattle.answers.specs.FieldLaws.{FieldLaws}
-use Rattle.answers.proofs.Padded.{padded_told, read_count}
+use Rattle.answers.proofs.Padded.{read_told, read_count}
 use Rattle.picture.specs.Writing.{Writes}
 use Rattle.picture.proofs.Promised.{writes_determined}
 use Rattle.std.specs.Prelude.{Result}
@@ -20,12 +19,11 @@ use Rattle.telling.specs.Returned.{returned}
 -- ---- the answers, by their numbers
 
 -- the code and the first of the four are the answer
-pub told : {A : Type 0} {values : A → List ℕ} {count : ℕ} → FieldLaws values count → count ≤ 4 → (answer : Result A Reason)
+pub told : {A : Type 0} {values : A → List ℕ} {count : ℕ} → FieldLaws values count → (answer : Result A Reason)
     → let x = padded (read values count answer) in returned x.code (take count x.fields) ≡ read values count answer
-told {values = values} {count} laws few answer =
+told {values = values} {count} laws answer =
     let is = read values count answer in
-    let long = read_count laws answer in
-    ap (λ (n : ℕ). returned is.code (take n (four is.values))) (sym long) ∙ padded_told is (omega (arith, few, long))
+    ap (λ (n : ℕ). returned is.code (take n (four is.values))) (sym (read_count laws answer)) ∙ read_told laws answer
 
 -- ---- a contract leaves no choice
 

@@ -13,8 +13,7 @@ use layout::Reason;
 // and the reading of a picture. The code is handed back.
 #[tactic(auto, using(crate::proofs::Returned::told))]
 pub fn tell<F: Fields, const N: usize>(answer: Result<F, Reason>, fields: &mut [u32; N]) -> u32
-    requires counted { F.COUNT ≡ N }
-    requires few { N ≤ 4 }
+    requires { F.COUNT ≡ N }
     ensures { returned result fields.new ≡ read F.values F.COUNT answer }
 {
     let numbers = answers::in_numbers(answer);
