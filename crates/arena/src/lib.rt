@@ -123,7 +123,8 @@ pub fn view(a: &[u32], b: u32) -> &[u32]
     &a[from..to]
 }
 
-// The part of the arena that is block `b`, to read and to store into; no words where there is no such block.
+// The part of the arena that is block `b`, to read and to store into; no words where there is no such block. The same
+// lines as `view` behind another borrow, as the library's own pairs are.
 pub fn view_mut(a: &mut [u32], b: u32) -> &mut [u32]
     ensures { Views a.old a.entry.ref_ptr b result.now result.ref_ptr }
 {

@@ -32,7 +32,7 @@ fn load_and_check(spelled: &[u8], words: &mut [u32]) -> Result<(), Reason>
 }
 
 // The check of an arena that comes as bytes: 0 where it is sound, 1 where no arena has so many bytes, 2 where it is not
-// sound.
+// sound. A number and no Result: it is what C is handed, and the pages name it so.
 pub fn check(spelled: &[u8]) -> u32
     ensures { result ≡ gate_number (bytes_gate spelled.now) }
 {

@@ -41,7 +41,8 @@ pub fn picture_length(n: usize) -> usize
     (1 + n.div_ceil(FRAME_WORDS)) * BARE_LINE + n * WORD_DIGITS
 }
 
-// Writes a line, and gives where it ends.
+// Writes a line, and gives where it ends. What stands before `at` and behind the end of the caller's text stays, so the
+// whole text is lent.
 pub fn put_line(out: &mut [u8], at: usize, kind: Kind, number: u32, words: &[u32]) -> usize
     requires { at + line_length (length words.now) ≤ length out.old }
     ensures { Puts at (line (kind_number kind) number words.now) out.old result out.new }

@@ -22,7 +22,7 @@ pub struct Heard {
     pub written: usize,
 }
 
-// The beginning of a text: nothing is heard, and no words are lent.
+// The beginning of a text: nothing is heard, and no words are lent. A function and no Default: the pages name it.
 pub fn nothing_heard() -> Heard
     ensures { result ≡ nothing_heard }
 {

@@ -1,5 +1,6 @@
 // What changes the words of an arena: the stores themselves, the need that is taken from a free chunk (`taking`), and
-// the chunk that is freed (`release`).
+// the chunk that is freed (`release`). Words come as the indices that callers reckon with, so each store asks that they
+// fit a word.
 #![tactic(auto)]
 
 pub mod release;

@@ -13,7 +13,7 @@ pub struct Reply {
     pub count: usize,
 }
 
-// The six numbers with which a reply begins.
+// The six numbers with which a reply begins; no `From`, since it asks for a bound.
 pub fn numbers(reply: Reply) -> [u32; 6]
     requires { reply.count < word_values }
     ensures { result ≡ numbers_of reply }

@@ -19,7 +19,7 @@ use layout::Ask;
 use passes::places::Place;
 use stores::taking::Piece;
 
-// A live chunk as a grant.
+// A live chunk as a grant; no `From`, since it asks for a bound.
 pub(crate) fn grant(piece: Piece) -> Grant
     requires { (piece.chunk ≤ greatest_length) × (piece.words ≤ greatest_length) }
     ensures { result ≡ grant_of piece }
