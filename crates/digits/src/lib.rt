@@ -16,11 +16,16 @@ pub const FOUR_DIGIT_VALUES: u64 = 65536;
 pub fn worth(b: u8) -> u64
     ensures { result ≡ worth_of b }
 {
-    // By the capital: one range less for each byte leaves no branch.
-    match upper(b) {
-        figure @ b'0'..=b'9' => (figure - b'0') as u64,
-        capital @ b'A'..=b'F' => (capital - b'A') as u64 + 10,
-        _ => 16,
+    // How far the capital lies above 0 and above A, round a byte's end: so no case needs a branch.
+    let capital = upper(b);
+    let figure = capital.wrapping_sub(b'0');
+    let letter = capital.wrapping_sub(b'A');
+    if figure < 10 {
+        figure as u64
+    } else if letter < 6 {
+        letter as u64 + 10
+    } else {
+        16
     }
 }
 
