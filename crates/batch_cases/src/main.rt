@@ -49,7 +49,7 @@ fn run_case<R: Read, W: Write>(
     wire::write_words(output, a, bytes)
 }
 
-// Lends the buffers, and runs cases until one cannot be run.
+// Lends the buffers, whose arrays differ from program to program, and runs cases until one cannot be run.
 fn main(rt: HostRuntime) {
     let mut input = rt.stdin();
     let mut output = rt.stdout();

@@ -7,7 +7,7 @@ ghost use Rattle.trials.specs.Trials.{with_rover, outcome_of};
 use answers::{Numbers, Roved};
 use layout::Reason;
 
-// What alloc_next answers, in numbers: what alloc does, and the rover as one field more.
+// What alloc_next answers, in numbers: what alloc does, and the rover as one field more; no `From`, since it adds one.
 fn roved_numbers(roved: Roved) -> Numbers
     ensures { result ≡ padded (with_rover (granted_numbers roved.granted) roved.rover) }
 {

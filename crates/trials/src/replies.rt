@@ -6,7 +6,8 @@ ghost use Rattle.trials.specs.Trials.{numbers_of, Replies};
 use super::{calls, parts};
 use answers::Numbers;
 
-// What is replied to a trial, but for the words: the answer, and how many words were handed back.
+// What is replied to a trial, but for the words: the answer, and how many words were handed back. The part is the
+// caller's slice, so its words are counted here.
 #[derive(Clone, Copy)]
 pub struct Reply {
     pub answered: Numbers,
