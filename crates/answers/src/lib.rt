@@ -182,7 +182,7 @@ pub fn refusal_numbers(count: usize, why: Reason) -> Numbers
     }
 }
 
-// What a call answers, in numbers.
+// What a call answers, in numbers; a function and no `From`, whose name would not say so.
 pub fn in_numbers<F: Fields>(answer: Result<F, Reason>) -> Numbers
     ensures { result ≡ padded (read F.values F.COUNT answer) }
 {

@@ -1,4 +1,5 @@
--- The last two digits of a number, its last four and its last eight are so many of its last digits; the most that they make.
+-- The last two digits of a number, its last four and its last eight are so many of its last digits; the most that they
+-- make.
 use Prim.Native.Nat.{ℕ, ◌/◌}
 use mathlib.Core.Path.{◌≡◌, refl, ap, ap₂, ◌∙◌}
 use mathlib.Core.List.{List, [], ◌∷◌, ◌++◌}

@@ -40,7 +40,7 @@ pub fn upper(b: u8) -> u8
     }
 }
 
-// The byte of a digit.
+// The byte of a digit; the library's digits are small letters.
 #[tactic(auto, unfolding(crate::specs::Digits::glyph), using(std::proofs::lemmas::Bool::Decides::nat_tests))]
 fn glyph(d: u32) -> u8
     requires { d < 16 }
@@ -65,7 +65,7 @@ pub fn number_at<const DIGITS: usize>(text: &[u8], at: usize) -> u64
     number
 }
 
-// Writes a number's last digits, so many of them.
+// Writes a number's last digits, so many of them. The whole text is lent, since all but these bytes of it stays.
 pub fn put<const DIGITS: usize>(out: &mut [u8], at: usize, v: u32)
     requires { at + DIGITS ≤ length out.old }
     ensures { Puts at (digits_of DIGITS v) out.old (at + DIGITS) out.new }

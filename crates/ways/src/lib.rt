@@ -1,7 +1,8 @@
 // The ways to grant: a new block (`allot`), and a block anew (`regrant_at`), where it stands (`staying`) or elsewhere
 // (`moving`). Where the block stands (`LiveAt`) is said of the arena's words in each contract: a type would have to
 // hold these words, which each way then stores to. `Needed` is said of the Ask alone, and is a clause all the same: a
-// ghost field of Ask would want its proof wherever specs/ makes an Ask of any number (`ask_of`).
+// ghost field of Ask would want its proof wherever specs/ makes an Ask of any number (`ask_of`). Place and ask are two
+// values, since what the ways call takes one of them, or another place.
 #![tactic(auto)]
 
 pub mod moving;

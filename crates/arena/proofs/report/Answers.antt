@@ -1,5 +1,5 @@
--- `report` meets its contract: the answer below is where the arena is refused; the check finds the rest by the lemmas that
--- the function names.
+-- `report` meets its contract: the answer below is where the arena is refused; the check finds the rest by the lemmas
+-- that the function names.
 use Rattle.std.proofs.Common.{refl}
 use Rattle.walk.proofs.Counted.{no_chunks_shut}
 use Rattle.rules.specs.Calls.{report_on}
