@@ -69,13 +69,17 @@ pub fn at_start() -> Place
     }
 }
 
-// The place after one more byte of the line.
+// The place after one more byte of the line. Where the digits are as many as a request can have, or the line is spoilt,
+// any byte spoils it: none is looked at.
 #[tactic(auto, unfolding(crate::specs::LinePlaces::onward), using(std::proofs::lemmas::Bool::Decides::nat_tests))]
 pub fn onward(place: Place, b: u8) -> Place
     ensures { result ≡ onward_from place b }
 {
+    if TWO_FIELDS <= place.digits {
+        return SPOILT;
+    }
     match digits::worth(b) {
-        worth @ 0..=15 if place.digits < TWO_FIELDS => Place {
+        worth @ 0..=15 => Place {
             digits: place.digits + 1,
             number: (place.number % NINE_DIGIT_VALUES) * 16 + worth,
         },

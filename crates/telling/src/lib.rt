@@ -17,6 +17,9 @@ pub fn tell<F: Fields, const N: usize>(answer: Result<F, Reason>, fields: &mut [
     ensures { returned result fields.new ≡ read F.values F.COUNT answer }
 {
     let numbers = answers::in_numbers(answer);
-    fields.copy_from_slice(&numbers.fields[..N]);
+    // One by one: slices are copied by way of memory, and then a short call takes up to twice its time.
+    for (i, field) in fields.iter_mut().enumerate() {
+        *field = numbers.fields[i];
+    }
     numbers.code
 }

@@ -4,6 +4,7 @@
 ghost use Rattle.std.specs.Prelude.{◌*◌, ◌≤◌, length, OnOk};
 ghost use Rattle.std.specs.Io.KnownBytes.{Appends, Consumes};
 ghost use Rattle.spelling.specs.Words.{bytes_of};
+ghost use Rattle.wire.specs.Steps.{UntilOneFails};
 
 use std::io;
 use std::io::{Read, Write};
@@ -33,13 +34,16 @@ pub fn write_words<W: Write>(output: &mut W, words: &[u32], bytes: &mut [u8]) ->
     output.write_all(spelled)
 }
 
-// Takes steps until one fails. A proved loop has to end, so the steps are counted, up to a number that no run reaches.
-pub fn run_until_it_fails<F: FnMut() -> io::Result<()>>(mut step: F)
+// Takes steps until one fails, and hands the step back as it then is. A proved loop has to end, so the steps are
+// counted, up to a number that no run reaches.
+pub fn run_until_it_fails<F: FnMut() -> io::Result<()>>(mut step: F) -> F
     requires { F.IsAlwaysCallable step }
+    ensures { UntilOneFails F.step step result }
 {
     for _ in 0..u64::MAX {
         if step().is_err() {
-            return;
+            return step;
         }
     }
+    step
 }
